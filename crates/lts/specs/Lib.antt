@@ -1,0 +1,11 @@
+pub mod Systems
+pub mod Rounds
+pub mod Bisimulations
+pub mod Processes
+pub mod Origins
+pub mod Environments
+pub mod Positions
+pub mod Limits
+pub mod Reactive
+pub mod Attacks
+pub mod Theorems

@@ -1,0 +1,35 @@
+// Steps and where they come from.
+ghost use mathlib.Core.Path.{_≡_};
+ghost use Rattle.lts.specs.Origins.{side-number};
+
+// A step that leaves a state. Its label is 0 for an inner step (`tau`), 1 for a time-out (`t`), and 2 + i for the signal i.
+#[derive(Clone, Copy, PartialEq, Eq, Debug)]
+pub struct Step {
+    pub label: usize,
+    pub target: usize,
+}
+
+// One of two sides: the left, which has the number 0, and the right, which has 1.
+#[derive(Clone, Copy, PartialEq, Eq, Debug)]
+pub enum Side {
+    Left,
+    Right,
+}
+
+impl Side {
+    pub fn number(self) -> usize
+        ensures { λ r. ⌜ r ≡ side-number self ⌝ }
+    {
+        match self {
+            Side::Left => 0,
+            Side::Right => 1,
+        }
+    }
+}
+
+// Where a listed step was written down: a side, and a place below 512 among the steps of that side.
+#[derive(Clone, Copy, PartialEq, Eq, Debug)]
+pub struct Origin {
+    pub side: Side,
+    pub place: usize,
+}
