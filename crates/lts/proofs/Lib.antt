@@ -5,3 +5,6 @@ pub mod Stable
 pub mod Search
 pub mod Presses
 pub mod Attacks
+pub mod Sets
+pub mod SixRules
+pub mod Reduction
