@@ -8,3 +8,7 @@ pub mod Attacks
 pub mod Sets
 pub mod SixRules
 pub mod Reduction
+pub mod Nth
+pub mod Main
+pub mod Kept
+pub mod Listed

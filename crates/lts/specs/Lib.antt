@@ -4,6 +4,7 @@ pub mod Bisimulations
 pub mod Processes
 pub mod Origins
 pub mod Environments
+pub mod Groups
 pub mod Positions
 pub mod Limits
 pub mod Reactive

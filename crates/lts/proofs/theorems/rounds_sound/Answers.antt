@@ -1,0 +1,5 @@
+use Rattle.lts.proofs.Main.{rounds-sound}
+use Rattle.lts.proofs.theorems.rounds_sound.Needs as need
+
+pub returns : need.returns
+returns c = rounds-sound

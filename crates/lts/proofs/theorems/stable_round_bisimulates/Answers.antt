@@ -1,0 +1,5 @@
+use Rattle.lts.proofs.Main.{stable-round-bisimulates}
+use Rattle.lts.proofs.theorems.stable_round_bisimulates.Needs as need
+
+pub returns : need.returns
+returns c = stable-round-bisimulates
