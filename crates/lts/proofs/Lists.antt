@@ -12,7 +12,7 @@ use lib.ListN.{length, getD}
 use Rattle.std.proofs.shelf.Elements.{all-getD}
 use Rattle.std.proofs.shelf.Tests.{and-parts, and-from, or-cases, or-left, or-right, false≢true, cases-eq}
 use Rattle.lts.specs.declared.steps.Step.{Step}
-use Rattle.lts.specs.Systems.{Listing, Leads, Fits, step}
+use Rattle.lts.specs.Systems.{Listing, Leads, In-range, step}
 use Rattle.lts.specs.Rounds.{any, all}
 
 module _ {X : Type 0} where
@@ -60,10 +60,10 @@ in-step from p a p′ i =
     record { place = r .0; inside = r .1; is = r .2 }
 
 -- what fits at every place fits where a step leads
-pub led-fits : (from : Listing) (labels states : ℕ) → ((p : ℕ) → All (Fits labels states) (from p)) →
+pub led-fits : (from : Listing) (labels states : ℕ) → ((p : ℕ) → All (In-range labels states) (from p)) →
     (p a p′ : ℕ) → Leads from p a p′ → (a < labels) × (p′ < states)
 led-fits from labels states fits p a p′ s =
-    subst (Fits labels states) (s .is) (all-getD (Fits labels states) (from p) (s .place) (step 0 0) (s .inside) (fits p))
+    subst (In-range labels states) (s .is) (all-getD (In-range labels states) (from p) (s .place) (step 0 0) (s .inside) (fits p))
 
 -- ---- lists made from lists
 

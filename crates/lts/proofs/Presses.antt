@@ -93,11 +93,15 @@ first-press S n p q h =
     let m : ℕ = length (S .from q) in
     let j : ℕ = seek (test Right) 0 m in
     elim (cases-lt i l) [
-      | inl low ↦ (Left, i, record {
-        presses = record { inside = low; parts = unanswered-true S n p q Left i (seek-here (test Left) 0 l (omega arith)) };
-        none-before = λ k b. presses-not S n p q Left k (seek-before (test Left) 0 l k (omega arith) b);
-        none-left = λ r. absurd (left-right r);
-      })
+      | inl low ↦ (
+        Left,
+        i,
+        record {
+          presses = record { inside = low; parts = unanswered-true S n p q Left i (seek-here (test Left) 0 l (omega arith)) };
+          none-before = λ k b. presses-not S n p q Left k (seek-before (test Left) 0 l k (omega arith) b);
+          none-left = λ r. absurd (left-right r);
+        },
+      )
       | inr up ↦
           let lefts : (k : ℕ) → k < l → test Left k ≡ false = λ k b. seek-before (test Left) 0 l k (omega arith) (omega arith) in
           let low : j < m = elim (cases-lt j m) [
@@ -107,12 +111,15 @@ first-press S n p q h =
               met-side S n p q Left lefts,
               met-side S n p q Right (λ k c. seek-before (test Right) 0 m k (omega arith) (omega arith)),
             ))
-          ] in
-          (Right, j, record {
-            presses = record { inside = low; parts = unanswered-true S n p q Right j (seek-here (test Right) 0 m (omega arith)) };
-            none-before = λ k b. presses-not S n p q Right k (seek-before (test Right) 0 m k (omega arith) b);
-            none-left = λ _ k b. presses-not S n p q Left k (lefts k (b .inside)) b;
-          })
+          ] in (
+            Right,
+            j,
+            record {
+              presses = record { inside = low; parts = unanswered-true S n p q Right j (seek-here (test Right) 0 m (omega arith)) };
+              none-before = λ k b. presses-not S n p q Right k (seek-before (test Right) 0 m k (omega arith) b);
+              none-left = λ _ k b. presses-not S n p q Left k (lefts k (b .inside)) b;
+            },
+          )
     ]
 
 -- ---- there is only one

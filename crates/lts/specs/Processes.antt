@@ -6,8 +6,10 @@ use mathlib.Core.List.{List, []}
 use lib.Dec.{eqb, ltb}
 use lib.ListN.{length}
 use Rattle.std.specs.shelf.Lists.{All}
+use Rattle.std.specs.declared.option.Option.{Option}
+use Rattle.std.specs.declared.option.Option.the-variants.{Some, None}
 use Rattle.lts.specs.declared.steps.Step.{Step}
-use Rattle.lts.specs.Systems.{Listing, Leads, Fits}
+use Rattle.lts.specs.Systems.{Listing, Leads, In-range}
 use Rattle.lts.specs.Rounds.{any}
 
 pub record Process : Type 0 where
@@ -15,7 +17,7 @@ pub record Process : Type 0 where
   pub signals : ℕ
   pub from : Listing
 
--- the labels: an inner step (written tau), a time-out (written t), and the signal i (written as the letter i of a to e)
+-- the labels: an inner step (written tau), a time-out (written t), and the signal i (written as a letter)
 abbrev pub inner : ℕ
 inner = 0
 
@@ -25,13 +27,17 @@ time-out = 1
 abbrev pub signal : ℕ → ℕ
 signal i = i + 2
 
+-- signals 0 to 4 are written a to e, by the code of the character
+abbrev pub letter : ℕ → Option ℕ
+letter i = cond (ltb i 5) (Some (97 + i)) None
+
 -- what the meaning of every source keeps
 pub record Process-limits (M : Process) : Type 0 where
   pub some-state : 1 ≤ M .states
   pub few-states : M .states ≤ 96
   pub few-signals : M .signals ≤ 5
   pub few-steps : (p : ℕ) → length (M .from p) ≤ 4096
-  pub fits : (p : ℕ) → All (Fits (M .signals + 2) (M .states)) (M .from p)
+  pub fits : (p : ℕ) → All (In-range (M .signals + 2) (M .states)) (M .from p)
   pub no-state : (p : ℕ) → M .states ≤ p → M .from p ≡ []
 
 -- An environment is the set of signals that it allows, numbered as the sum of 2 ^ i over its signals i. It has the signal i if its

@@ -32,8 +32,8 @@ abbrev pub target-at : Listing → ℕ → ℕ → ℕ
 target-at from p k = getD (from p) k (step 0 0) .target
 
 -- a step to a state below `states`, labelled below `labels`
-abbrev pub Fits : ℕ → ℕ → Step → Type 0
-Fits labels states s = (s .label < labels) × (s .target < states)
+abbrev pub In-range : ℕ → ℕ → Step → Type 0
+In-range labels states s = (s .label < labels) × (s .target < states)
 
 -- what every plain system keeps
 pub record System-limits (S : System) : Type 0 where
@@ -42,5 +42,5 @@ pub record System-limits (S : System) : Type 0 where
   pub some-label : 1 ≤ S .labels
   pub few-labels : S .labels ≤ 40
   pub few-steps : (p : ℕ) → length (S .from p) ≤ 4128
-  pub fits : (p : ℕ) → All (Fits (S .labels) (S .states)) (S .from p)
+  pub fits : (p : ℕ) → All (In-range (S .labels) (S .states)) (S .from p)
   pub no-state : (p : ℕ) → S .states ≤ p → S .from p ≡ []

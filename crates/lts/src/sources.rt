@@ -4,7 +4,7 @@ ghost use mathlib.Core.Path.{_≡_};
 ghost use mathlib.Core.List.{List};
 ghost use lib.ListN.{length};
 ghost use Rattle.std.specs.shelf.Maps.{nth};
-ghost use Rattle.lts.specs.declared.steps.Origin.{Origin as Origin-of-step};
+ghost use Rattle.lts.specs.declared.steps.Origin.{Origin};
 ghost use Rattle.lts.specs.Processes.{Process, Process-limits};
 ghost use Rattle.lts.specs.Origins.{Origin-limits};
 use crate::steps::Origin;
@@ -16,7 +16,7 @@ pub trait Source {
     ghost meaning: { Self → Process };
 
     // where each listed step comes from
-    ghost origins: { Self → ℕ → List Origin-of-step };
+    ghost origins: { Self → ℕ → List Origin };
 
     // what an implementation owes
     ghost limits: { (x : Self) → Process-limits (meaning x) };

@@ -1,6 +1,7 @@
 // Steps and where they come from.
 ghost use mathlib.Core.Path.{_≡_};
 ghost use Rattle.lts.specs.Origins.{side-number};
+ghost use Rattle.lts.specs.Processes.{letter};
 
 // A step that leaves a state. Its label is 0 for an inner step (`tau`), 1 for a time-out (`t`), and 2 + i for the signal i.
 #[derive(Clone, Copy, PartialEq, Eq, Debug)]
@@ -32,4 +33,18 @@ impl Side {
 pub struct Origin {
     pub side: Side,
     pub place: usize,
+}
+
+// The letter that a signal is written as.
+pub fn signal_letter(signal: usize) -> Option<char>
+    ensures { λ r. ⌜ r ≡ letter signal ⌝ }
+{
+    match signal {
+        0 => Some('a'),
+        1 => Some('b'),
+        2 => Some('c'),
+        3 => Some('d'),
+        4 => Some('e'),
+        _ => None,
+    }
 }
