@@ -59,9 +59,12 @@ pub record Idle (M : Process) (X p : ℕ) : Type 0 where
   pub no-inner : (p′ : ℕ) → Leads (M .from) p inner p′ → ⊥
   pub no-signal : (a p′ : ℕ) → allowed X a ≡ true → Leads (M .from) p a p′ → ⊥
 
--- the same as a test
+-- the same as a test: a label of an inner step or of a signal of X keeps a state busy
+abbrev pub busy : ℕ → ℕ → Bool
+busy X a = eqb a inner || allowed X a
+
 abbrev pub busy-step : ℕ → Step → Bool
-busy-step X s = eqb (s .label) inner || allowed X (s .label)
+busy-step X s = busy X (s .label)
 
 unfoldable pub idle : Process → ℕ → ℕ → Bool
 idle M X p = not (any (busy-step X) (M .from p))
