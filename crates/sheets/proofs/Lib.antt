@@ -1,0 +1,13 @@
+pub mod Places
+pub mod Without
+pub mod Fitting
+pub mod Once
+pub mod Leaving
+pub mod Kept
+pub mod Listings
+pub mod Sides
+pub mod Sound
+pub mod Stays
+pub mod Pushes
+pub mod Standing
+pub mod Scripts

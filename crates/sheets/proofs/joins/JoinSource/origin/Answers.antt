@@ -1,0 +1,20 @@
+-- At a state of the right sheet an origin is that sheet's, on the right.
+use Rattle.std.specs.declared.option.Option.the-variants.{Some, None}
+use Rattle.sheets.specs.Held.{held}
+use Rattle.sheets.specs.Listings.{origins-of}
+use Rattle.sheets.proofs.Sides.{right-origin}
+use Rattle.sheets.proofs.joins.JoinSource.origin.Needs as need
+
+pub returns-in-None : need.returns-in-None
+returns-in-None c =
+    let l = held (c .args .self .now .left .now) in
+    let r = held (c .args .self .now .right .now) in
+    right-origin (l .states) (origins-of l) (origins-of r) (c .args .state) (c .states-n .result) (c .args .place) None
+    (c .states-n .ensures) (c .if-state-n .left) (c .in-None .ensures tt)
+
+pub returns-in-Some : need.returns-in-Some
+returns-in-Some c =
+    let l = held (c .args .self .now .left .now) in
+    let r = held (c .args .self .now .right .now) in
+    right-origin (l .states) (origins-of l) (origins-of r) (c .args .state) (c .states-n .result) (c .args .place)
+    (Some (c .in-Some .origin)) (c .states-n .ensures) (c .if-state-n .left) (c .in-Some .ensures tt)

@@ -1,0 +1,75 @@
+// Two sheets side by side, as one source.
+ghost use denote.Ref.{now};
+ghost use Rattle.sheets.specs.Listings.{process-of, origins-of};
+ghost use Rattle.sheets.specs.Held.{held};
+ghost use Rattle.sheets.specs.Joins.{joined-process, joined-origins};
+ghost use Rattle.sheets.specs.JoinLimits.{join-limits, join-originated};
+use crate::store::Sheet;
+use crate::store::listing::SheetSource;
+use lts::sources::Source;
+use lts::steps::Origin;
+use lts::steps::Side;
+use lts::steps::Step;
+
+// The states of both sheets and the larger number of signals. A state p of the left sheet stays p, a state q of the right one becomes
+// (left states) + q, and the right sheet's steps have the side 1.
+#[derive(Clone, Copy)]
+pub struct Join<'a> {
+    pub left: &'a Sheet,
+    pub right: &'a Sheet,
+}
+
+pub impl Source for Join<'_> as JoinSource {
+    ghost meaning = { λ j. joined-process (process-of (held (now (j .left)))) (process-of (held (now (j .right)))) };
+
+    ghost origins = { λ j. joined-origins (held (now (j .left)) .states) (origins-of (held (now (j .left)))) (origins-of (held (now (j .right)))) };
+
+    ghost limits = { λ j. join-limits (now (j .left)) (now (j .right)) };
+
+    ghost originated = { λ j. join-originated (now (j .left)) (now (j .right)) };
+
+    fn states(&self) -> usize {
+        self.left.states() + self.right.states()
+    }
+
+    fn signals(&self) -> usize {
+        self.left.signals().max(self.right.signals())
+    }
+
+    fn step_count(&self, state: usize) -> usize {
+        let n = self.left.states();
+        if state < n {
+            self.left.step_count(state)
+        } else {
+            self.right.step_count(state - n)
+        }
+    }
+
+    fn step(&self, state: usize, place: usize) -> Option<Step> {
+        let n = self.left.states();
+        if state < n {
+            return self.left.step(state, place);
+        }
+        match self.right.step(state - n, place) {
+            None => None,
+            Some(step) => Some(Step {
+                label: step.label,
+                target: n + step.target,
+            }),
+        }
+    }
+
+    fn origin(&self, state: usize, place: usize) -> Option<Origin> {
+        let n = self.left.states();
+        if state < n {
+            return self.left.origin(state, place);
+        }
+        match self.right.origin(state - n, place) {
+            None => None,
+            Some(origin) => Some(Origin {
+                side: Side::Right,
+                place: origin.place,
+            }),
+        }
+    }
+}

@@ -1,0 +1,125 @@
+// A guided run of the library: two sheets are made and edited, joined, and put into their environments.
+use lts::environments::Position;
+use lts::environments::Surrounded;
+use lts::environments::listing::SurroundedLts;
+use lts::sources::Source;
+use lts::systems::Lts;
+use sheets::joins::Join;
+use sheets::joins::JoinSource;
+use sheets::replays::Call;
+use sheets::replays::Entry;
+use sheets::replays::replay;
+use sheets::store::Sheet;
+use sheets::transitions::Transition;
+use std::error::AnyError;
+
+mod words;
+
+use words::Answer;
+use words::Label;
+use words::Place;
+
+fn note(from: usize, label: usize, to: usize) -> Entry {
+    Entry {
+        call: Call::Note(Transition { from, label, to }),
+        answer: None,
+    }
+}
+
+fn strike(from: usize, label: usize, to: usize) -> Entry {
+    Entry {
+        call: Call::Strike(Transition { from, label, to }),
+        answer: None,
+    }
+}
+
+// Carries out a script on a new sheet, and prints each call with its answer.
+fn write(rt: &LibcRuntime, sheet: &mut Sheet, states: usize, signals: usize, script: &mut [Entry]) -> Result<(), AnyError> {
+    let made = Answer(replay(sheet, states, signals, script));
+    println!(rt, "new sheet, {states} states, {signals} signals: {made}")?;
+    for entry in script.iter() {
+        let (word, step) = match entry.call {
+            Call::Note(step) => ("note", step),
+            Call::Strike(step) => ("strike", step),
+        };
+        if let Some(answer) = entry.answer {
+            let label = Label { label: step.label, signals: 5 };
+            let answer = Answer(answer);
+            println!(rt, "  {word} {} {label} {}: {answer}", step.from, step.to)?;
+        }
+    }
+    Ok(())
+}
+
+// The steps of the join, each with the place on its sheet where it was noted.
+fn list_join(rt: &LibcRuntime, join: &Join) -> Result<(), AnyError> {
+    let states = join.states();
+    let signals = join.signals();
+    println!(rt, "join: {states} states, {signals} signals")?;
+    for state in 0..states {
+        for place in 0..join.step_count(state) {
+            if let (Some(step), Some(origin)) = (join.step(state, place), join.origin(state, place)) {
+                let label = Label { label: step.label, signals };
+                println!(rt, "  {state} {label} {}  (side {}, place {})", step.target, origin.side.number(), origin.place)?;
+            }
+        }
+    }
+    Ok(())
+}
+
+// The steps that leave one position of the surrounded system.
+fn list_position(rt: &LibcRuntime, join: &Join, position: Position) -> Result<(), AnyError> {
+    let system = Surrounded::of(join);
+    let from = Place(position);
+    let Some(state) = system.number(position) else {
+        println!(rt, "{from}: absent")?;
+        return Ok(());
+    };
+    println!(rt, "{from}, state {state} of {}:", system.states())?;
+    for place in 0..system.step_count(state) {
+        if let Some(step) = system.step(state, place) {
+            let label = Label { label: step.label, signals: join.signals() };
+            if let Some(position) = system.position(step.target) {
+                let to = Place(position);
+                println!(rt, "  {label} to {to}")?;
+            }
+        }
+    }
+    Ok(())
+}
+
+fn run(rt: &LibcRuntime) -> Result<(), AnyError> {
+    let mut old = Sheet::blank(rt.alloc())?;
+    let mut new = Sheet::blank(rt.alloc())?;
+    println!(rt, "The old sheet, with some slips:")?;
+    write(rt, &mut old, 49, 1, &mut [])?;
+    write(rt, &mut old, 4, 1, &mut [
+        note(0, 2, 1),
+        note(0, 1, 2),
+        note(4, 2, 1),
+        note(0, 3, 1),
+        note(0, 2, 1),
+        note(2, 0, 3),
+        note(2, 2, 3),
+        strike(2, 2, 3),
+        strike(2, 2, 3),
+        note(2, 2, 3),
+    ])?;
+    println!(rt, "The new sheet:")?;
+    write(rt, &mut new, 4, 1, &mut [note(0, 2, 1), note(0, 1, 2), note(2, 0, 3)])?;
+    let join = Join { left: &old, right: &new };
+    println!(rt, "Both side by side, with the side and the place of each step's origin:")?;
+    list_join(rt, &join)?;
+    println!(rt, "Some positions in their environments, each a set of allowed signals:")?;
+    list_position(rt, &join, Position::Plain { state: 0 })?;
+    for state in [0, 2, 6] {
+        for allowed in 0..2 {
+            list_position(rt, &join, Position::Under { allowed, state })?;
+        }
+    }
+    list_position(rt, &join, Position::Plain { state: 8 })
+}
+
+fn main(rt: LibcRuntime) -> Result<(), AnyError> {
+    rt.report(run(&rt))
+}
