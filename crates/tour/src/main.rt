@@ -1,4 +1,14 @@
 // A guided run of the library: two sheets are made and edited, joined, and put into their environments.
+ghost use mathlib.Core.Path.{_≡_};
+ghost use Rattle.std.specs.declared.option.Option.the-variants.{None};
+ghost use Rattle.sheets.specs.Transitions.{transition};
+ghost use Rattle.sheets.specs.declared.replays.Call.the-variants.{Note, Strike};
+use crate::words::Answer;
+use crate::words::AnswerDisplay;
+use crate::words::Label;
+use crate::words::LabelDisplay;
+use crate::words::Place;
+use crate::words::PlaceDisplay;
 use lts::environments::Position;
 use lts::environments::Surrounded;
 use lts::environments::listing::SurroundedLts;
@@ -15,18 +25,20 @@ use std::error::AnyError;
 
 mod words;
 
-use words::Answer;
-use words::Label;
-use words::Place;
+// Calls that are not yet carried out.
 
-fn note(from: usize, label: usize, to: usize) -> Entry {
+fn note(from: usize, label: usize, to: usize) -> Entry
+    ensures { λ r. ⌜ r ≡ record { call = Note (transition from label to); answer = None } ⌝ }
+{
     Entry {
         call: Call::Note(Transition { from, label, to }),
         answer: None,
     }
 }
 
-fn strike(from: usize, label: usize, to: usize) -> Entry {
+fn strike(from: usize, label: usize, to: usize) -> Entry
+    ensures { λ r. ⌜ r ≡ record { call = Strike (transition from label to); answer = None } ⌝ }
+{
     Entry {
         call: Call::Strike(Transition { from, label, to }),
         answer: None,
@@ -34,16 +46,26 @@ fn strike(from: usize, label: usize, to: usize) -> Entry {
 }
 
 // Carries out a script on a new sheet, and prints each call with its answer.
-fn write(rt: &LibcRuntime, sheet: &mut Sheet, states: usize, signals: usize, script: &mut [Entry]) -> Result<(), AnyError> {
+fn write(
+    rt: &LibcRuntime,
+    sheet: &mut Sheet,
+    states: usize,
+    signals: usize,
+    script: &mut [Entry],
+) -> Result<(), AnyError> {
     let made = Answer(replay(sheet, states, signals, script));
-    println!(rt, "new sheet, {states} states, {signals} signals: {made}")?;
+    println!(rt, "new sheet (states {states}, signals {signals}): {made}")?;
     for entry in script.iter() {
         let (word, step) = match entry.call {
             Call::Note(step) => ("note", step),
             Call::Strike(step) => ("strike", step),
         };
         if let Some(answer) = entry.answer {
-            let label = Label { label: step.label, signals: 5 };
+            // a slip may name a signal that the sheet lacks
+            let label = Label {
+                label: step.label,
+                signals: 5,
+            };
             let answer = Answer(answer);
             println!(rt, "  {word} {} {label} {}: {answer}", step.from, step.to)?;
         }
@@ -51,17 +73,31 @@ fn write(rt: &LibcRuntime, sheet: &mut Sheet, states: usize, signals: usize, scr
     Ok(())
 }
 
-// The steps of the join, each with the place on its sheet where it was noted.
 fn list_join(rt: &LibcRuntime, join: &Join) -> Result<(), AnyError> {
     let states = join.states();
     let signals = join.signals();
-    println!(rt, "join: {states} states, {signals} signals")?;
+    println!(rt, "join (states {states}, signals {signals}):")?;
     for state in 0..states {
-        for place in 0..join.step_count(state) {
-            if let (Some(step), Some(origin)) = (join.step(state, place), join.origin(state, place)) {
-                let label = Label { label: step.label, signals };
-                println!(rt, "  {state} {label} {}  (side {}, place {})", step.target, origin.side.number(), origin.place)?;
-            }
+        list_state(rt, join, state)?;
+    }
+    Ok(())
+}
+
+// The steps that leave a state, each with the side and the place where it was noted.
+fn list_state(rt: &LibcRuntime, join: &Join, state: usize) -> Result<(), AnyError> {
+    let signals = join.signals();
+    for place in 0..join.step_count(state) {
+        if let (Some(step), Some(origin)) = (join.step(state, place), join.origin(state, place)) {
+            let label = Label {
+                label: step.label,
+                signals,
+            };
+            let side = origin.side.number();
+            println!(
+                rt,
+                "  {state} {label} {}  (side {side}, place {})",
+                step.target, origin.place
+            )?;
         }
     }
     Ok(())
@@ -70,6 +106,7 @@ fn list_join(rt: &LibcRuntime, join: &Join) -> Result<(), AnyError> {
 // The steps that leave one position of the surrounded system.
 fn list_position(rt: &LibcRuntime, join: &Join, position: Position) -> Result<(), AnyError> {
     let system = Surrounded::of(join);
+    let signals = join.signals();
     let from = Place(position);
     let Some(state) = system.number(position) else {
         println!(rt, "{from}: absent")?;
@@ -78,7 +115,10 @@ fn list_position(rt: &LibcRuntime, join: &Join, position: Position) -> Result<()
     println!(rt, "{from}, state {state} of {}:", system.states())?;
     for place in 0..system.step_count(state) {
         if let Some(step) = system.step(state, place) {
-            let label = Label { label: step.label, signals: join.signals() };
+            let label = Label {
+                label: step.label,
+                signals,
+            };
             if let Some(position) = system.position(step.target) {
                 let to = Place(position);
                 println!(rt, "  {label} to {to}")?;
@@ -93,31 +133,69 @@ fn run(rt: &LibcRuntime) -> Result<(), AnyError> {
     let mut new = Sheet::blank(rt.alloc())?;
     println!(rt, "The old sheet, with some slips:")?;
     write(rt, &mut old, 49, 1, &mut [])?;
-    write(rt, &mut old, 4, 1, &mut [
-        note(0, 2, 1),
-        note(0, 1, 2),
-        note(4, 2, 1),
-        note(0, 3, 1),
-        note(0, 2, 1),
-        note(2, 0, 3),
-        note(2, 2, 3),
-        strike(2, 2, 3),
-        strike(2, 2, 3),
-        note(2, 2, 3),
-    ])?;
+    write(
+        rt,
+        &mut old,
+        4,
+        1,
+        &mut [
+            note(0, 2, 1),
+            note(0, 1, 2),
+            note(4, 2, 1),
+            note(0, 3, 1),
+            note(0, 2, 1),
+            note(2, 0, 3),
+            note(2, 2, 3),
+            strike(2, 2, 3),
+            strike(2, 2, 3),
+            note(2, 2, 3),
+        ],
+    )?;
     println!(rt, "The new sheet:")?;
-    write(rt, &mut new, 4, 1, &mut [note(0, 2, 1), note(0, 1, 2), note(2, 0, 3)])?;
-    let join = Join { left: &old, right: &new };
-    println!(rt, "Both side by side, with the side and the place of each step's origin:")?;
+    write(
+        rt,
+        &mut new,
+        4,
+        1,
+        &mut [note(0, 2, 1), note(0, 1, 2), note(2, 0, 3)],
+    )?;
+    let join = Join {
+        left: &old,
+        right: &new,
+    };
+    println!(rt, "Both side by side, with the origin of each step:")?;
     list_join(rt, &join)?;
-    println!(rt, "Some positions in their environments, each a set of allowed signals:")?;
-    list_position(rt, &join, Position::Plain { state: 0 })?;
-    for state in [0, 2, 6] {
-        for allowed in 0..2 {
-            list_position(rt, &join, Position::Under { allowed, state })?;
-        }
+    println!(
+        rt,
+        "Some positions, alone or under a set of allowed signals:"
+    )?;
+    for position in [
+        Position::Plain { state: 0 },
+        Position::Under {
+            allowed: 0,
+            state: 0,
+        },
+        Position::Under {
+            allowed: 1,
+            state: 0,
+        },
+        Position::Under {
+            allowed: 0,
+            state: 2,
+        },
+        Position::Under {
+            allowed: 1,
+            state: 2,
+        },
+        Position::Under {
+            allowed: 1,
+            state: 6,
+        },
+        Position::Plain { state: 8 },
+    ] {
+        list_position(rt, &join, position)?;
     }
-    list_position(rt, &join, Position::Plain { state: 8 })
+    Ok(())
 }
 
 fn main(rt: LibcRuntime) -> Result<(), AnyError> {
