@@ -111,6 +111,14 @@ fn positions_under(rt: LibcRuntime) -> Result<(), Fail> {
     check_eq((system.step_count(10), system.step(10, 0)), (0, None))
 }
 
+fn plain(state: usize) -> Position {
+    Position::Plain { state }
+}
+
+fn under(allowed: usize, state: usize) -> Position {
+    Position::Under { allowed, state }
+}
+
 #[test]
 fn numbers_of_positions(rt: LibcRuntime) -> Result<(), Fail> {
     let mut sheet = Sheet::blank(rt.alloc())?;
@@ -120,43 +128,15 @@ fn numbers_of_positions(rt: LibcRuntime) -> Result<(), Fail> {
         right: &sheet,
     };
     let system = Surrounded::of(&join);
-    let last = Position::Under {
-        allowed: 31,
-        state: 95,
-    };
     check_eq((system.states(), system.labels()), (3168, 40))?;
-    check_eq(
-        (
-            system.number(last),
-            system.position(3167),
-            system.position(3168),
-        ),
-        (Some(3167), Some(last), None),
-    )?;
-    check_eq(
-        system.number(Position::Under {
-            allowed: 32,
-            state: 0,
-        }),
-        None,
-    )?;
-    check_eq(
-        system.number(Position::Under {
-            allowed: 0,
-            state: 96,
-        }),
-        None,
-    )?;
-    check_eq(
-        (
-            system.number(Position::Plain { state: 95 }),
-            system.number(Position::Plain { state: 96 }),
-        ),
-        (Some(95), None),
-    )?;
+    check_eq(system.number(under(31, 95)), Some(3167))?;
+    check_eq(system.position(3167), Some(under(31, 95)))?;
+    check_eq(system.position(3168), None)?;
+    check_eq(system.number(under(32, 0)), None)?;
+    check_eq(system.number(under(0, 96)), None)?;
+    check_eq(system.number(plain(95)), Some(95))?;
+    check_eq(system.number(plain(96)), None)?;
     // an idle state under any environment has the change alone
-    check_eq(
-        (system.step_count(3167), system.step(3167, 0)),
-        (1, to(7, 95)),
-    )
+    check_eq(system.step_count(3167), 1)?;
+    check_eq(system.step(3167, 0), to(7, 95))
 }

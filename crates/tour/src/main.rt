@@ -1,6 +1,7 @@
 // A guided run of the library: two sheets are made and edited, joined, and put into their environments.
 ghost use mathlib.Core.Path.{_≡_};
 ghost use Rattle.std.specs.declared.option.Option.the-variants.{None};
+ghost use Rattle.lts.specs.declared.environments.Position.the-variants.{Plain, Under};
 ghost use Rattle.sheets.specs.Transitions.{transition};
 ghost use Rattle.sheets.specs.declared.replays.Call.the-variants.{Note, Strike};
 use crate::words::Answer;
@@ -103,6 +104,18 @@ fn list_state(rt: &LibcRuntime, join: &Join, state: usize) -> Result<(), AnyErro
     Ok(())
 }
 
+fn plain(state: usize) -> Position
+    ensures { λ r. ⌜ r ≡ Plain state ⌝ }
+{
+    Position::Plain { state }
+}
+
+fn under(allowed: usize, state: usize) -> Position
+    ensures { λ r. ⌜ r ≡ Under allowed state ⌝ }
+{
+    Position::Under { allowed, state }
+}
+
 // The steps that leave one position of the surrounded system.
 fn list_position(rt: &LibcRuntime, join: &Join, position: Position) -> Result<(), AnyError> {
     let system = Surrounded::of(join);
@@ -128,37 +141,36 @@ fn list_position(rt: &LibcRuntime, join: &Join, position: Position) -> Result<()
     Ok(())
 }
 
+// The old sheet's script, with a step struck and noted again, and slips of each kind.
+fn write_old(rt: &LibcRuntime, sheet: &mut Sheet) -> Result<(), AnyError> {
+    println!(rt, "The old sheet, with some slips:")?;
+    write(rt, sheet, 49, 1, &mut [])?;
+    let mut script = [
+        note(0, 2, 1),
+        note(0, 1, 2),
+        note(4, 2, 1),
+        note(0, 3, 1),
+        note(0, 2, 1),
+        note(2, 0, 3),
+        note(2, 2, 3),
+        strike(2, 2, 3),
+        strike(2, 2, 3),
+        note(2, 2, 3),
+    ];
+    write(rt, sheet, 4, 1, &mut script)
+}
+
+fn write_new(rt: &LibcRuntime, sheet: &mut Sheet) -> Result<(), AnyError> {
+    println!(rt, "The new sheet:")?;
+    let mut script = [note(0, 2, 1), note(0, 1, 2), note(2, 0, 3)];
+    write(rt, sheet, 4, 1, &mut script)
+}
+
 fn run(rt: &LibcRuntime) -> Result<(), AnyError> {
     let mut old = Sheet::blank(rt.alloc())?;
     let mut new = Sheet::blank(rt.alloc())?;
-    println!(rt, "The old sheet, with some slips:")?;
-    write(rt, &mut old, 49, 1, &mut [])?;
-    write(
-        rt,
-        &mut old,
-        4,
-        1,
-        &mut [
-            note(0, 2, 1),
-            note(0, 1, 2),
-            note(4, 2, 1),
-            note(0, 3, 1),
-            note(0, 2, 1),
-            note(2, 0, 3),
-            note(2, 2, 3),
-            strike(2, 2, 3),
-            strike(2, 2, 3),
-            note(2, 2, 3),
-        ],
-    )?;
-    println!(rt, "The new sheet:")?;
-    write(
-        rt,
-        &mut new,
-        4,
-        1,
-        &mut [note(0, 2, 1), note(0, 1, 2), note(2, 0, 3)],
-    )?;
+    write_old(rt, &mut old)?;
+    write_new(rt, &mut new)?;
     let join = Join {
         left: &old,
         right: &new,
@@ -169,30 +181,16 @@ fn run(rt: &LibcRuntime) -> Result<(), AnyError> {
         rt,
         "Some positions, alone or under a set of allowed signals:"
     )?;
-    for position in [
-        Position::Plain { state: 0 },
-        Position::Under {
-            allowed: 0,
-            state: 0,
-        },
-        Position::Under {
-            allowed: 1,
-            state: 0,
-        },
-        Position::Under {
-            allowed: 0,
-            state: 2,
-        },
-        Position::Under {
-            allowed: 1,
-            state: 2,
-        },
-        Position::Under {
-            allowed: 1,
-            state: 6,
-        },
-        Position::Plain { state: 8 },
-    ] {
+    let positions = [
+        plain(0),
+        under(0, 0),
+        under(1, 0),
+        under(0, 2),
+        under(1, 2),
+        under(1, 6),
+        plain(8),
+    ];
+    for position in positions {
         list_position(rt, &join, position)?;
     }
     Ok(())
