@@ -11,8 +11,8 @@ use lts::steps::Origin;
 use lts::steps::Side;
 use lts::steps::Step;
 
-// The states of both sheets and the larger number of signals. A state p of the left sheet stays p, a state q of the right one becomes
-// (left states) + q, and the right sheet's steps have the side 1.
+// One source out of two sheets. The left sheet's states come first, so a state q of the right one is numbered behind all n of them, as
+// n + q. There are as many signals as on the sheet that has more, and what comes from the right sheet has side 1.
 #[derive(Clone, Copy)]
 pub struct Join<'a> {
     pub left: &'a Sheet,
