@@ -1,8 +1,10 @@
 // Two sheets side by side, as one source.
+ghost use mathlib.Core.Path.{_≡_};
+ghost use Prim.Native.Nat.{_+_, _^_, _<_};
 ghost use denote.Ref.{now};
 ghost use Rattle.sheets.specs.Listings.{process-of, origins-of};
 ghost use Rattle.sheets.specs.Held.{held};
-ghost use Rattle.sheets.specs.Joins.{joined-process, joined-origins};
+ghost use Rattle.sheets.specs.Joins.{moved, joined-process, on-the-right, joined-origins};
 ghost use Rattle.sheets.specs.JoinLimits.{join-limits, join-originated};
 use crate::store::Sheet;
 use crate::store::listing::SheetSource;
@@ -52,10 +54,7 @@ pub impl Source for Join<'_> as JoinSource {
         }
         match self.right.step(state - n, place) {
             None => None,
-            Some(step) => Some(Step {
-                label: step.label,
-                target: n + step.target,
-            }),
+            Some(step) => Some(moved_by(n, step)),
         }
     }
 
@@ -66,10 +65,27 @@ pub impl Source for Join<'_> as JoinSource {
         }
         match self.right.origin(state - n, place) {
             None => None,
-            Some(origin) => Some(Origin {
-                side: Side::Right,
-                place: origin.place,
-            }),
+            Some(origin) => Some(on_the_right(origin)),
         }
+    }
+}
+
+// A step of the right sheet, whose states come after n states of the left one.
+fn moved_by(n: usize, step: Step) -> Step
+    requires { ⌜ n + step .target < 2 ^ 64 ⌝ }
+    ensures { λ r. ⌜ r ≡ moved n step ⌝ }
+{
+    Step {
+        label: step.label,
+        target: n + step.target,
+    }
+}
+
+fn on_the_right(origin: Origin) -> Origin
+    ensures { λ r. ⌜ r ≡ on-the-right origin ⌝ }
+{
+    Origin {
+        side: Side::Right,
+        place: origin.place,
     }
 }

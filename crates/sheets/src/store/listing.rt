@@ -2,7 +2,7 @@
 ghost use mathlib.Core.Path.{_≡_};
 ghost use lib.ListN.{length};
 ghost use Rattle.std.specs.shelf.Maps.{nth};
-ghost use Rattle.sheets.specs.Listings.{leaving, process-of, origins-of, Listings-stand};
+ghost use Rattle.sheets.specs.Listings.{leaving, step-of, origin-of, process-of, origins-of, Listings-stand};
 ghost use Rattle.sheets.specs.Held.{held};
 ghost use Rattle.sheets.specs.SheetLimits.{sheet-limits, sheet-originated};
 use super::Sheet;
@@ -37,21 +37,33 @@ pub impl Source for Sheet as SheetSource {
     fn step(&self, state: usize, place: usize) -> Option<Step> {
         match nth_leaving(&self.steps, state, place) {
             None => None,
-            Some(listed) => Some(Step {
-                label: listed.transition.label,
-                target: listed.transition.to,
-            }),
+            Some(listed) => Some(step_of(listed)),
         }
     }
 
     fn origin(&self, state: usize, place: usize) -> Option<Origin> {
         match nth_leaving(&self.steps, state, place) {
             None => None,
-            Some(listed) => Some(Origin {
-                side: Side::Left,
-                place: listed.place,
-            }),
+            Some(listed) => Some(origin_of(listed)),
         }
+    }
+}
+
+fn step_of(listed: Listed) -> Step
+    ensures { λ r. ⌜ r ≡ step-of listed ⌝ }
+{
+    Step {
+        label: listed.transition.label,
+        target: listed.transition.to,
+    }
+}
+
+fn origin_of(listed: Listed) -> Origin
+    ensures { λ r. ⌜ r ≡ origin-of listed ⌝ }
+{
+    Origin {
+        side: Side::Left,
+        place: listed.place,
     }
 }
 

@@ -1,4 +1,5 @@
 -- At a state of the right sheet an origin is that sheet's, on the right.
+use mathlib.Core.Path.{ap, _∙_}
 use Rattle.std.specs.declared.option.Option.the-variants.{Some, None}
 use Rattle.sheets.specs.Held.{held}
 use Rattle.sheets.specs.Listings.{origins-of}
@@ -16,5 +17,6 @@ pub returns-in-Some : need.returns-in-Some
 returns-in-Some c =
     let l = held (c .args .self .now .left .now) in
     let r = held (c .args .self .now .right .now) in
-    right-origin (l .states) (origins-of l) (origins-of r) (c .args .state) (c .states-n .result) (c .args .place)
+    ap Some (c .on-the-right .ensures)
+    ∙ right-origin (l .states) (origins-of l) (origins-of r) (c .args .state) (c .states-n .result) (c .args .place)
     (Some (c .in-Some .origin)) (c .states-n .ensures) (c .if-state-n .left) (c .in-Some .ensures tt)

@@ -1,6 +1,6 @@
 -- At a state of the right sheet a step is that sheet's, moved.
 use native.Mathlib.Omega.{arith}
-use mathlib.Core.Path.{sym}
+use mathlib.Core.Path.{ap, sym, _∙_}
 use Rattle.std.specs.declared.option.Option.the-variants.{Some, None}
 use Rattle.sheets.specs.Held.{held}
 use Rattle.sheets.specs.Listings.{process-of}
@@ -9,8 +9,8 @@ use Rattle.lts.proofs.Nth.{nth-all}
 use Rattle.sheets.proofs.Sides.{right-step}
 use Rattle.sheets.proofs.joins.JoinSource.step.Needs as need
 
-pub add-result : need.add-result
-add-result c =
+pub moved-by-requires : need.moved-by-requires
+moved-by-requires c κs =
     let right = sheet-limits (c .args .self .now .right .now) in
     let h = nth-all _ _ _ (c .in-Some .step) (right .fits _) (sym (c .in-Some .ensures tt)) in
     omega (arith, c .states-n .ensures)
@@ -26,5 +26,6 @@ pub returns-in-Some : need.returns-in-Some
 returns-in-Some c =
     let l = process-of (held (c .args .self .now .left .now)) in
     let r = process-of (held (c .args .self .now .right .now)) in
-    right-step l r (c .args .state) (c .states-n .result) (c .args .place) (Some (c .in-Some .step)) (c .states-n .ensures)
+    ap Some (c .moved-by .ensures)
+    ∙ right-step l r (c .args .state) (c .states-n .result) (c .args .place) (Some (c .in-Some .step)) (c .states-n .ensures)
     (c .if-state-n .left) (c .in-Some .ensures tt)

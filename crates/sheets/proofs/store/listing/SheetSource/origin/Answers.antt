@@ -1,4 +1,5 @@
 -- The origin at a place is that of the transition listed there.
+use mathlib.Core.Path.{ap, _∙_}
 use Rattle.std.specs.declared.option.Option.the-variants.{Some, None}
 use Rattle.sheets.specs.Listings.{origin-of}
 use Rattle.sheets.proofs.Leaving.{nth-made}
@@ -11,5 +12,6 @@ returns-in-None c =
 
 pub returns-in-Some : need.returns-in-Some
 returns-in-Some c =
-    nth-made origin-of (c .deref .result .now) (c .args .self .now .steps .items) (c .args .state) (c .args .place)
+    ap Some (c .origin-of .ensures)
+    ∙ nth-made origin-of (c .deref .result .now) (c .args .self .now .steps .items) (c .args .state) (c .args .place)
     (Some (c .in-Some .listed)) (c .in-Some .ensures tt) (c .deref .ensures .value)
