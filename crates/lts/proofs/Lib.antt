@@ -1,3 +1,4 @@
+-- The lemmas, and the theorems in Main.
 pub mod Lists
 pub mod Rounds
 pub mod Classes

@@ -13,7 +13,7 @@ use Rattle.std.proofs.shelf.Elements.{all-getD}
 use Rattle.std.proofs.shelf.Tests.{and-parts, and-from, or-cases, or-left, or-right, false≢true, cases-eq}
 use Rattle.lts.specs.declared.steps.Step.{Step}
 use Rattle.lts.specs.Systems.{Listing, Leads, In-range, step}
-use Rattle.lts.specs.Rounds.{any, all}
+use Rattle.lts.specs.Lists.{any, all}
 
 module _ {X : Type 0} where
   abbrev pub In : X → List X → Type 0

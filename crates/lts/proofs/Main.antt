@@ -1,17 +1,13 @@
 -- The theorems, proved.
 use native.Mathlib.Nat.{le-refl}
-use mathlib.Core.Path.{subst, sym}
-use Prim.Native.Nat.{ℕ}
-use Rattle.lts.specs.Systems.{Leads}
-use Rattle.lts.specs.Bisimulations.{Passes}
-use Rattle.lts.specs.Environments.{number, surrounded}
+use Rattle.lts.specs.Bisimulations.{Holds}
 use Rattle.lts.specs.Limits.{surrounded-limits}
-use Rattle.lts.specs.Theorems.{Rounds-decided, Rounds-sound, Stable-round-bisimulates, Stable-round-exists, Bisimilar-or-apart, Sets-numbered, Six-rules, Reduction, Every-process-reduced, One-first-press, Attacks-sound, Attacks-no-shorter, Always-first-shortest}
+use Rattle.lts.specs.Theorems.{Rounds-decided, Rounds-equivalences, Rounds-sound, Stable-round-bisimulates, Stable-round-exists, Bisimilar-or-apart, Sets-numbered, Reduction, Every-process-reduced, One-first-press, Attacks-sound, Attacks-no-shorter, Always-first-shortest}
 use Rattle.lts.specs.Processes.{Process, Process-limits}
-use Rattle.lts.proofs.Rounds.{decides-same, related-same, stable-bisimulation, first-apart-one}
+use Rattle.lts.proofs.Rounds.{decides-same, same-down, same-sym, same-refl, same-trans, related-same, stable-bisimulation, first-apart-one}
 use Rattle.lts.proofs.Stable.{stable-round, bisimilar-or-apart}
 use Rattle.lts.proofs.Sets.{numbered-has, numbered-below, has-numbered, signal-allowed, allowed-signal}
-use Rattle.lts.proofs.SixRules.{step-move, move-step, positions-numbered}
+use Rattle.lts.proofs.SixRules.{positions-numbered, six-rules}
 use Rattle.lts.proofs.Reduction.{reactive-plain, plain-reactive}
 use Rattle.lts.proofs.Presses.{first-press, first-press-one}
 use Rattle.lts.proofs.Attacks.{attack-parts, attack-long, first-attack, first-exact}
@@ -19,8 +15,16 @@ use Rattle.lts.proofs.Attacks.{attack-parts, attack-long, first-attack, first-
 pub rounds-decided : Rounds-decided
 rounds-decided = decides-same
 
+pub rounds-equivalences : Rounds-equivalences
+rounds-equivalences = record {
+  reflexive = same-refl;
+  symmetric = same-sym;
+  transitive = same-trans;
+  finer = λ S n m p q l h. same-down S p q n m l h;
+}
+
 pub rounds-sound : Rounds-sound
-rounds-sound S p q b n = related-same S (Passes (b .0)) (b .1) n p q (b .2)
+rounds-sound S p q b n = related-same S (Holds (b .0)) (b .1) n p q (b .2)
 
 pub stable-round-bisimulates : Stable-round-bisimulates
 stable-round-bisimulates = stable-bisimulation
@@ -44,15 +48,9 @@ sets-numbered = record {
   allowed-signal = allowed-signal;
 }
 
-six-rules : (M : Process) → Six-rules M
-six-rules M x h a v = (
-  step-move M x h a v,
-  (λ r. subst (λ (u : ℕ). Leads (surrounded M .from) (number M x) a u) (sym (r .2)) (move-step M x h a (r .0) (r .1))),
-)
-
 reduction : (M : Process) → Process-limits M → Reduction M
 reduction M f p q h k = (
-  (λ r. reactive-plain M f (Passes (r .0)) (λ X. Passes (r .1 X)) (r .2) p q h k (r .3)),
+  (λ r. reactive-plain M f (Holds (r .0)) (λ X. Holds (r .1 X)) (r .2) p q h k (r .3)),
   (λ r. plain-reactive M f (r .0) (r .1) p q h k (r .2)),
 )
 
@@ -60,7 +58,7 @@ pub every-process-reduced : Every-process-reduced
 every-process-reduced M f = record {
   limits = surrounded-limits M f;
   positions-numbered = positions-numbered M (f .some-state);
-  six-rules = six-rules M;
+  six-rules = six-rules M f;
   reduction = reduction M f;
 }
 

@@ -12,7 +12,8 @@ use Rattle.lts.specs.declared.steps.Step.{Step}
 use Rattle.lts.specs.declared.steps.Side.{Side}
 use Rattle.lts.specs.declared.steps.Side.the-variants.{Left, Right}
 use Rattle.lts.specs.Systems.{System, Leads, label-at, target-at, step}
-use Rattle.lts.specs.Rounds.{any, Met, Same, same, First-apart}
+use Rattle.lts.specs.Lists.{any}
+use Rattle.lts.specs.Rounds.{Met, Same, same, First-apart}
 use Rattle.lts.specs.Attacks.{own, across, Presses, First-press}
 use Rattle.lts.proofs.Lists.{In, any-true, any-from, step-in, in-step}
 use Rattle.lts.proofs.Rounds.{decides-same, same-sym}

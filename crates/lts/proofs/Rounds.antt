@@ -13,8 +13,9 @@ use Rattle.std.proofs.shelf.Tests.{and-parts, and-from, eqb-true, eq-eqb, ltb-t
 use Rattle.std.proofs.shelf.Ways.{decides-and}
 use Rattle.lts.specs.declared.steps.Step.{Step}
 use Rattle.lts.specs.Systems.{Listing, System, Leads, System-limits, step}
-use Rattle.lts.specs.Rounds.{any, met, Met, Same, same, Stable, First-apart}
-use Rattle.lts.specs.Bisimulations.{Bisimulation, Passes, classmates}
+use Rattle.lts.specs.Lists.{any}
+use Rattle.lts.specs.Rounds.{met, Met, Same, same, Stable, First-apart}
+use Rattle.lts.specs.Bisimulations.{Bisimulation, Holds, classmates}
 use Rattle.lts.proofs.Lists.{In, any-true, any-from, all-true, all-from, step-in, in-step, led-fits}
 
 -- ---- the test decides
@@ -130,7 +131,7 @@ classmates-from S n p q l m h =
 pub led-below : (S : System) → System-limits S → (p a p′ : ℕ) → Leads (S .from) p a p′ → p′ < S .states
 led-below S w p a p′ s = led-fits (S .from) (S .labels) (S .states) (w .fits) p a p′ s .1
 
-pub stable-bisimulation : (S : System) → System-limits S → (n : ℕ) → Stable S n → Bisimulation S (Passes (classmates S n))
+pub stable-bisimulation : (S : System) → System-limits S → (n : ℕ) → Stable S n → Bisimulation S (Holds (classmates S n))
 stable-bisimulation S w n st = record {
   forth = λ p q e a p′ s.
       let c = classmates-true S n p q e in

@@ -1,4 +1,4 @@
--- Some round below the number of states is stable, so states are bisimilar or separated, and tests stand for all relations.
+-- Some round below the number of states is stable, so states are bisimilar or separated, and a Boolean relation is enough.
 use Prim.Native.Nat.{ℕ, zero, suc, _<_, _≤_}
 use native.Mathlib.Omega.{arith}
 use mathlib.Core.Path.{_≡_}
@@ -34,8 +34,7 @@ bisimilar-or-apart S w p q lp lq =
       | inr e ↦ let r = first-apart S n p q (not-same S n p q e) in inr (r .0, omega arith, r .2)
     ]
 
--- Tests lose nothing: what any bisimulation relates, in whatever type, some test relates. This speaks of all types, so no contract
--- can have it
+-- what any bisimulation relates, in whatever type, a Boolean one relates
 pub relation-bisimilar : (S : System) → System-limits S → (R : ℕ → ℕ → Type 0) → Bisimulation S R →
     (p q : ℕ) → p < S .states → q < S .states → R p q → Bisimilar S p q
 relation-bisimilar S w R b p q lp lq h =

@@ -9,8 +9,7 @@ use Rattle.lts.specs.declared.steps.Side.the-variants.{Left, Right}
 use Rattle.lts.specs.Systems.{System, Leads, label-at, target-at}
 use Rattle.lts.specs.Rounds.{Same, First-apart}
 
--- Of two states, the one on a side and the one across. So a step on a side to m and a reply to r leave the pair `own side m r`,
--- `across side m r`
+-- of two states, the one on a side and the one across
 abbrev pub own : Side → ℕ → ℕ → ℕ
 own Left p q = p
 own Right p q = q
@@ -19,12 +18,19 @@ abbrev pub across : Side → ℕ → ℕ → ℕ
 across Left p q = q
 across Right p q = p
 
+-- the left and the right state after a step on a side to m and a reply to r
+abbrev pub left-after : Side → ℕ → ℕ → ℕ
+left-after side m r = own side m r
+
+abbrev pub right-after : Side → ℕ → ℕ → ℕ
+right-after side m r = across side m r
+
 -- The step at the place k on a side presses p and q at round n: each reply, a step across with the same label, leads to a pair that
 -- round n separates. At round 0, which separates none, there is no reply
 pub record Presses (S : System) (n p q : ℕ) (side : Side) (k : ℕ) : Type 0 where
   pub inside : k < length (S .from (own side p q))
   pub parts : (r : ℕ) → Leads (S .from) (across side p q) (label-at (S .from) (own side p q) k) r →
-      Same S n (own side (target-at (S .from) (own side p q) k) r) (across side (target-at (S .from) (own side p q) k) r) → ⊥
+      Same S n (left-after side (target-at (S .from) (own side p q) k) r) (right-after side (target-at (S .from) (own side p q) k) r) → ⊥
 
 -- the first step that presses, left before right and places rising
 pub record First-press (S : System) (n p q : ℕ) (side : Side) (k : ℕ) : Type 0 where
@@ -44,12 +50,12 @@ mutual
   pub data Replies (S : System) : Side → ℕ → ℕ → List Step → Type 0 where
     none : {side : Side} {a m : ℕ} → Replies S side a m []
     reply : {side : Side} {a m : ℕ} {s : Step} {rest : List Step} →
-        s .label ≡ a → Attack S (own side m (s .target)) (across side m (s .target)) → Replies S side a m rest →
+        s .label ≡ a → Attack S (left-after side m (s .target)) (right-after side m (s .target)) → Replies S side a m rest →
         Replies S side a m (s ∷ rest)
     skip : {side : Side} {a m : ℕ} {s : Step} {rest : List Step} →
         (s .label ≡ a → ⊥) → Replies S side a m rest → Replies S side a m (s ∷ rest)
 
--- how many presses an attack takes: one, and the most that any reply leaves
+-- how many presses an attack takes: one more than the most that any reply leaves, and 1 if there is no reply
 abbrev mutual
   pub presses-of : {S : System} {p q : ℕ} → Attack S p q → ℕ
   presses-of (press side k h rs) = suc (most-of rs)

@@ -11,14 +11,14 @@ pub record Bisimulation (S : System) (R : ℕ → ℕ → Type 0) : Type 0 where
   pub forth : (p q : ℕ) → R p q → Met (S .from) R p q
   pub back : (p q : ℕ) → R p q → Met (S .from) (λ q′ p′. R p′ q′) q p
 
--- the pairs that pass a test
-abbrev pub Passes : (ℕ → ℕ → Bool) → ℕ → ℕ → Type 0
-Passes r p q = r p q ≡ true
+-- the pairs that a Boolean relation holds
+abbrev pub Holds : (ℕ → ℕ → Bool) → ℕ → ℕ → Type 0
+Holds r p q = r p q ≡ true
 
--- Some bisimulation relates p and q. A contract can quantify over tests only, not over relations of any kind. That loses nothing:
--- what any relation relates, a test does (`relation-bisimilar` in proofs/Stable)
+-- Some bisimulation relates p and q. It is asked for as a Boolean relation, since a fact of a contract cannot quantify over relations in
+-- types. For the states of a system within the limits that is no less: `relations_bisimilar` in src/relations.rt
 abbrev pub Bisimilar : System → ℕ → ℕ → Type 0
-Bisimilar S p q = (r : ℕ → ℕ → Bool) × Bisimulation S (Passes r) × (r p q ≡ true)
+Bisimilar S p q = (r : ℕ → ℕ → Bool) × Bisimulation S (Holds r) × (r p q ≡ true)
 
 -- the states of the system that share a class at round n
 unfoldable pub classmates : System → ℕ → ℕ → ℕ → Bool

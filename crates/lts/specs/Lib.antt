@@ -1,3 +1,5 @@
+-- The definitions that contracts cite, and the limits that implementations owe.
+pub mod Lists
 pub mod Systems
 pub mod Rounds
 pub mod Bisimulations
@@ -9,4 +11,5 @@ pub mod Positions
 pub mod Limits
 pub mod Reactive
 pub mod Attacks
+pub mod Relations
 pub mod Theorems

@@ -10,7 +10,7 @@ use Rattle.std.specs.declared.option.Option.{Option}
 use Rattle.std.specs.declared.option.Option.the-variants.{Some, None}
 use Rattle.lts.specs.declared.steps.Step.{Step}
 use Rattle.lts.specs.Systems.{Listing, Leads, In-range}
-use Rattle.lts.specs.Rounds.{any}
+use Rattle.lts.specs.Lists.{any}
 
 pub record Process : Type 0 where
   pub states : ℕ

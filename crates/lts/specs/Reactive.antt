@@ -4,7 +4,7 @@ use mathlib.Core.Path.{_≡_}
 use mathlib.Core.Bool.{Bool, true}
 use Rattle.lts.specs.Systems.{Leads}
 use Rattle.lts.specs.Processes.{Process, inner, time-out, allowed, Idle}
-use Rattle.lts.specs.Bisimulations.{Passes}
+use Rattle.lts.specs.Bisimulations.{Holds}
 
 pub record Reactive-bisimulation (M : Process) (plainly : ℕ → ℕ → Type 0) (under : ℕ → ℕ → ℕ → Type 0) : Type 0 where
   pub plainly-sym : (p q : ℕ) → plainly p q → plainly q p
@@ -22,9 +22,9 @@ pub record Reactive-bisimulation (M : Process) (plainly : ℕ → ℕ → Type 0
   pub times-out : (X p q : ℕ) → under X p q → Idle M X p →
       (p′ : ℕ) → Leads (M .from) p time-out p′ → (q′ : ℕ) × Leads (M .from) q time-out q′ × under X p′ q′
 
--- Some reactive bisimulation holds p and q plainly. As for `Bisimilar`, tests stand for all relations, and lose none
--- (`relation-reactive` in proofs/Reduction)
+-- Some reactive bisimulation holds p and q plainly. It is asked for as two Boolean relations, and for the states of a process within the
+-- limits that is no less: `relations_reactive` in src/relations.rt
 abbrev pub Reactively-bisimilar : Process → ℕ → ℕ → Type 0
 Reactively-bisimilar M p q =
     (plainly : ℕ → ℕ → Bool) × (under : ℕ → ℕ → ℕ → Bool)
-    × Reactive-bisimulation M (Passes plainly) (λ X. Passes (under X)) × (plainly p q ≡ true)
+    × Reactive-bisimulation M (Holds plainly) (λ X. Holds (under X)) × (plainly p q ≡ true)

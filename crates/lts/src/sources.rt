@@ -10,7 +10,7 @@ ghost use Rattle.lts.specs.Origins.{Origin-limits};
 use crate::steps::Origin;
 use crate::steps::Step;
 
-// A process that is asked by questions. What it stands for is its meaning, which fixes every answer: an absent state has no
+// A process, by the questions that can be asked of it. What it stands for is its meaning, which fixes every answer: an absent state has no
 // steps, and an absent place answers `None`. Asking alters nothing.
 pub trait Source {
     ghost meaning: { Self → Process };

@@ -18,7 +18,7 @@ pub enum Side {
 }
 
 impl Side {
-    pub fn number(self) -> usize
+    pub fn number(self) -> u8
         ensures { λ r. ⌜ r ≡ side-number self ⌝ }
     {
         match self {

@@ -9,7 +9,7 @@ ghost use Rattle.lts.specs.Limits.{bare-limits};
 use crate::sources::Source;
 use crate::steps::Step;
 
-// A labelled transition system that is asked by questions: no time-outs and no origins, labels are only compared.
+// A labelled transition system, by the questions that can be asked of it: no time-outs and no origins, labels are only compared.
 pub trait Lts {
     ghost system: { Self → System };
 
@@ -32,7 +32,7 @@ pub trait Lts {
 }
 
 // A source with all its labels taken alike, time-outs too.
-#[derive(Clone, Copy)]
+#[derive_where(Clone, Copy)]
 pub struct Bare<'a, S> {
     pub source: &'a S,
 }

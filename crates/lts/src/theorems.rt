@@ -1,11 +1,16 @@
 // Theorems that a comparison stands on, beside those of `Surrounded::of`. The contract of each function is one of them, so that the
 // check asks for its proof; there is nothing to run.
-ghost use Rattle.lts.specs.Theorems.{Rounds-decided, Rounds-sound, Stable-round-bisimulates, Stable-round-exists, Bisimilar-or-apart};
+ghost use Rattle.lts.specs.Theorems.{Rounds-decided, Rounds-equivalences, Rounds-sound, Stable-round-bisimulates, Stable-round-exists, Bisimilar-or-apart};
 ghost use Rattle.lts.specs.Theorems.{Sets-numbered, Every-process-reduced, One-first-press, Attacks-sound, Attacks-no-shorter, Always-first-shortest};
 
 // A round of refinement is decided by its test.
 pub fn rounds_decided()
     ensures { λ _. ⌜ Rounds-decided ⌝ }
+{}
+
+// Each round is an equivalence between states, and splits the classes of the one before.
+pub fn rounds_equivalences()
+    ensures { λ _. ⌜ Rounds-equivalences ⌝ }
 {}
 
 // What a strong bisimulation relates is together at every round.
@@ -34,7 +39,7 @@ pub fn sets_numbered()
 {}
 
 // What `Surrounded::of` says of one source, of every process within the limits: the surrounded system keeps a plain system's limits,
-// lists exactly the steps of the six rules, and decides reactive bisimilarity.
+// lists exactly the steps of the six rules, and has strongly bisimilar plain positions exactly where states are reactively bisimilar.
 pub fn every_process_reduced()
     ensures { λ _. ⌜ Every-process-reduced ⌝ }
 {}
@@ -44,7 +49,7 @@ pub fn one_first_press()
     ensures { λ _. ⌜ One-first-press ⌝ }
 {}
 
-// As many rounds as an attack takes presses separate the pair.
+// If an attack takes n presses, round n separates the pair.
 pub fn attacks_sound()
     ensures { λ _. ⌜ Attacks-sound ⌝ }
 {}

@@ -1,3 +1,4 @@
+-- The proof of `always_first_shortest`.
 use Rattle.lts.proofs.Main.{always-first-shortest}
 use Rattle.lts.proofs.theorems.always_first_shortest.Needs as need
 

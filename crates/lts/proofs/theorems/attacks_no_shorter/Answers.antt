@@ -1,3 +1,4 @@
+-- The proof of `attacks_no_shorter`.
 use Rattle.lts.proofs.Main.{attacks-no-shorter}
 use Rattle.lts.proofs.theorems.attacks_no_shorter.Needs as need
 

@@ -1,3 +1,4 @@
+-- The proof of `bisimilar_or_apart`.
 use Rattle.lts.proofs.Main.{bisimilar-or-apart-stands}
 use Rattle.lts.proofs.theorems.bisimilar_or_apart.Needs as need
 

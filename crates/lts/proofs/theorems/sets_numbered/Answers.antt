@@ -1,3 +1,4 @@
+-- The proof of `sets_numbered`.
 use Rattle.lts.proofs.Main.{sets-numbered}
 use Rattle.lts.proofs.theorems.sets_numbered.Needs as need
 

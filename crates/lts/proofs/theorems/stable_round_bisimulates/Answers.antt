@@ -1,3 +1,4 @@
+-- The proof of `stable_round_bisimulates`.
 use Rattle.lts.proofs.Main.{stable-round-bisimulates}
 use Rattle.lts.proofs.theorems.stable_round_bisimulates.Needs as need
 

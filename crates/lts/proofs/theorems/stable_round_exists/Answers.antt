@@ -1,3 +1,4 @@
+-- The proof of `stable_round_exists`.
 use Rattle.lts.proofs.Main.{stable-round-exists}
 use Rattle.lts.proofs.theorems.stable_round_exists.Needs as need
 
