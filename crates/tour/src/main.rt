@@ -26,8 +26,7 @@ use std::error::AnyError;
 
 mod words;
 
-// Calls that are not yet carried out.
-
+// A call that is not yet carried out.
 fn note(from: usize, label: usize, to: usize) -> Entry
     ensures { λ r. ⌜ r ≡ record { call = Note (transition from label to); answer = None } ⌝ }
 {
