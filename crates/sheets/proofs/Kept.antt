@@ -10,6 +10,14 @@ use Rattle.std.specs.declared.option.Option.the-variants.{Some}
 use Rattle.std.proofs.iter.runs.Lists.{none-some, same-some}
 use Rattle.std.proofs.shelf.Tests.{cond-true, cond-both}
 
+module _ {X : Type 0} where
+  -- y stands before z
+  abbrev pub In-order : List X → X → X → Type 0
+  In-order xs y z = (k : ℕ) × (m : ℕ) × (k < m) × (nth xs k ≡ Some y) × (nth xs m ≡ Some z)
+
+  pub in-order-later : (x : X) (xs : List X) (y z : X) → In-order xs y z → In-order (x ∷ xs) y z
+  in-order-later x xs y z s = (suc (s .0), suc (s .1), omega (arith, s .2), s .3, s .4)
+
 module _ {X : Type 0} (test : X → Bool) where
   abbrev Stood : List X → X → Type 0
   Stood xs y = (k : ℕ) × (nth xs k ≡ Some y) × (test y ≡ true)
@@ -34,12 +42,6 @@ module _ {X : Type 0} (test : X → Bool) where
       let rest = stays-kept xs k y e t in
       cond-both (test x) (x ∷ kept-by test xs) (kept-by test xs) (λ ys. (i : ℕ) × (nth ys i ≡ Some y))
       (λ _. (suc (rest .0), rest .1)) (λ _. rest)
-
-  abbrev In-order : List X → X → X → Type 0
-  In-order xs y z = (k : ℕ) × (m : ℕ) × (k < m) × (nth xs k ≡ Some y) × (nth xs m ≡ Some z)
-
-  in-order-later : (x : X) (xs : List X) (y z : X) → In-order xs y z → In-order (x ∷ xs) y z
-  in-order-later x xs y z s = (suc (s .0), suc (s .1), omega (arith, s .2), s .3, s .4)
 
   pub kept-in-order : (xs : List X) (i j : ℕ) (y z : X) → i < j →
       nth (kept-by test xs) i ≡ Some y → nth (kept-by test xs) j ≡ Some z → In-order xs y z

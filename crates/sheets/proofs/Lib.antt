@@ -1,3 +1,4 @@
+-- The lemmas.
 pub mod Places
 pub mod Without
 pub mod Fitting
@@ -6,8 +7,9 @@ pub mod Leaving
 pub mod Kept
 pub mod Listings
 pub mod Sides
-pub mod Sound
+pub mod Calls
 pub mod Stays
 pub mod Pushes
 pub mod Standing
+pub mod InOrder
 pub mod Scripts

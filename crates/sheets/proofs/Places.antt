@@ -7,12 +7,14 @@ use mathlib.Core.Logic.{_⊎_, inl, inr, ⊎-elim}
 use mathlib.Core.List.{List, [], _∷_, _++_}
 use lib.Dec.{eqb}
 use lib.ListN.{length, take, getD}
-use Rattle.std.specs.Holes.{removed}
+use Rattle.std.specs.shelf.Maps.{nth}
+use Rattle.std.specs.declared.option.Option.the-variants.{Some}
+use Rattle.std.proofs.iter.runs.Lists.{none-some, same-some}
 use Rattle.std.proofs.shelf.Lists.{take-more}
 use Rattle.std.proofs.shelf.Tests.{both-ways, or-cases, or-left, or-right, or-parts, or-from, and-parts, cond-true, cond-false, eqb-true}
 use Rattle.std.proofs.shelf.Ways.{tells}
 use Rattle.sheets.specs.declared.transitions.Transition.{Transition}
-use Rattle.sheets.specs.Transitions.{transition, same-transition, has-transition, without}
+use Rattle.sheets.specs.Transitions.{transition, same-transition, has-transition, without, Stands-at}
 
 pub same-refl : (x : Transition) → same-transition x x ≡ true
 same-refl x = grind (arith, tells)
@@ -57,6 +59,12 @@ has-last xs x =
     has-append xs (x ∷ []) x
     ∙ or-right (has-transition xs x) (same-transition x x || false) (or-left (same-transition x x) false (same-refl x))
 
+pub has-at : (xs : List Transition) (i : ℕ) (x : Transition) → nth xs i ≡ Some x → has-transition xs x ≡ true
+has-at [] i x e = absurd (none-some x e)
+has-at (y ∷ ys) zero x e =
+    or-left (same-transition y x) (has-transition ys x) (ap (same-transition y) (sym (same-some y x e)) ∙ same-refl y)
+has-at (y ∷ ys) (suc i) x e = or-right (same-transition y x) (has-transition ys x) (has-at ys i x e)
+
 -- a search from the front, at the place i
 pub has-more : (xs : List Transition) (i : ℕ) (x d : Transition) → i < length xs →
     has-transition (take i xs) x ≡ false → same-transition (getD xs i d) x ≡ false → has-transition (take (i + 1) xs) x ≡ false
@@ -64,14 +72,18 @@ has-more xs i x d within none other =
     ap (λ zs. has-transition zs x) (take-more xs i d within) ∙ has-push (take i xs) (getD xs i d) x none other
 
 pub found : (xs : List Transition) (i : ℕ) (x d : Transition) → i < length xs →
-    has-transition (take i xs) x ≡ false → same-transition (getD xs i d) x ≡ true →
-    (has-transition xs x ≡ true) × (removed xs i ≡ without xs x)
+    has-transition (take i xs) x ≡ false → same-transition (getD xs i d) x ≡ true → Stands-at xs x i
 found [] i x d h n s = absurd (omega arith)
-found (y ∷ ys) zero x d h n s =
-    (or-left (same-transition y x) (has-transition ys x) s, sym (cond-true (same-transition y x) ys (y ∷ without ys x) s))
+found (y ∷ ys) zero x d h n s = record {
+  inside = h;
+  present = or-left (same-transition y x) (has-transition ys x) s;
+  rest = sym (cond-true (same-transition y x) ys (y ∷ without ys x) s);
+}
 found (y ∷ ys) (suc i) x d h n s =
     let none = or-parts (same-transition y x) (has-transition (take i ys) x) n in
-    let rest = found ys i x d (omega arith) (none .1) s in
-    let after : removed (y ∷ ys) (suc i) ≡ without (y ∷ ys) x =
-    ap (λ zs. y ∷ zs) (rest .1) ∙ sym (cond-false (same-transition y x) ys (y ∷ without ys x) (none .0)) in
-    (or-right (same-transition y x) (has-transition ys x) (rest .0), after)
+    let later = found ys i x d (omega arith) (none .1) s in
+    record {
+      inside = h;
+      present = or-right (same-transition y x) (has-transition ys x) (later .present);
+      rest = ap (λ zs. y ∷ zs) (later .rest) ∙ sym (cond-false (same-transition y x) ys (y ∷ without ys x) (none .0));
+    }

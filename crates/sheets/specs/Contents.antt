@@ -8,7 +8,8 @@ use Rattle.std.specs.Results.{isOk}
 use Rattle.std.specs.declared.result.Result.{Result}
 use Rattle.std.specs.declared.result.Result.the-variants.{Ok, Err}
 use Rattle.sheets.specs.declared.refusals.Refusal.{Refusal}
-use Rattle.sheets.specs.declared.refusals.Refusal.the-variants.{SizeOutOfLimits, AbsentState, AbsentLabel, StepPresent, SheetFull, StepAbsent}
+use Rattle.sheets.specs.declared.refusals.Refusal.the-variants.{SizeOutOfLimits, AbsentState, AbsentLabel}
+use Rattle.sheets.specs.declared.refusals.Refusal.the-variants.{StepPresent, SheetFull, StepAbsent}
 use Rattle.sheets.specs.declared.transitions.Transition.{Transition}
 use Rattle.sheets.specs.Transitions.{has-transition, without}
 
@@ -19,6 +20,10 @@ pub record Contents : Type 0 where
 
 abbrev pub contents-of : ℕ → ℕ → List Transition → Contents
 contents-of n k xs = record { states = n; signals = k; steps = xs }
+
+-- one state, no signals and no steps
+abbrev pub blank-contents : Contents
+blank-contents = contents-of 1 0 []
 
 abbrev pub Answer : Type 0
 Answer = Result (Unit {0}) Refusal

@@ -52,7 +52,8 @@ pub record Listing-stands (c : Contents) (p : ℕ) : Type 0 where
       (o .side ≡ Left) × (nth (c .steps) (o .place) ≡ Some (transition p (s .label) (s .target)))
   pub complete : (k a q : ℕ) → nth (c .steps) k ≡ Some (transition p a q) →
       (i : ℕ) × (nth (process-of c .from p) i ≡ Some (step a q)) × (nth (origins-of c p) i ≡ Some (origin Left k))
-  pub in-order : (i j : ℕ) (o o′ : Origin) → i < j → nth (origins-of c p) i ≡ Some o → nth (origins-of c p) j ≡ Some o′ → o .place < o′ .place
+  pub in-order : (i j : ℕ) (o o′ : Origin) → i < j → nth (origins-of c p) i ≡ Some o → nth (origins-of c p) j ≡ Some o′ →
+      o .place < o′ .place
 
 abbrev pub Listings-stand : Type 0
 Listings-stand = (c : Contents) (p : ℕ) → Listing-stands c p

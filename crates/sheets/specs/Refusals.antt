@@ -1,7 +1,8 @@
 -- The number of each refusal.
 use Prim.Native.Nat.{ℕ}
 use Rattle.sheets.specs.declared.refusals.Refusal.{Refusal}
-use Rattle.sheets.specs.declared.refusals.Refusal.the-variants.{SizeOutOfLimits, AbsentState, AbsentLabel, StepPresent, SheetFull, StepAbsent}
+use Rattle.sheets.specs.declared.refusals.Refusal.the-variants.{SizeOutOfLimits, AbsentState, AbsentLabel}
+use Rattle.sheets.specs.declared.refusals.Refusal.the-variants.{StepPresent, SheetFull, StepAbsent}
 
 abbrev pub refusal-number : Refusal → ℕ
 refusal-number SizeOutOfLimits = 1

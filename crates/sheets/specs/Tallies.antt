@@ -13,7 +13,7 @@ use Rattle.sheets.specs.declared.transitions.Transition.{Transition}
 use Rattle.sheets.specs.declared.replays.Call.{Call}
 use Rattle.sheets.specs.declared.replays.Call.the-variants.{Note, Strike}
 use Rattle.sheets.specs.declared.replays.Entry.{Entry}
-use Rattle.sheets.specs.Transitions.{has-transition}
+use Rattle.sheets.specs.Transitions.{has-transition, all-once}
 use Rattle.sheets.specs.Contents.{Contents, contents-of, Answer, new-sheet-answer, note-answer, after-note, strike-answer, after-strike}
 
 abbrev pub call-answer : Contents → Call → Answer
@@ -48,13 +48,18 @@ after-replay c n k es = cond (isOk (new-sheet-answer n k)) (tally n k (calls-of 
 abbrev pub script-after : ℕ → ℕ → List Entry → List Entry
 script-after n k es = cond (isOk (new-sheet-answer n k)) (answered (contents-of n k []) es) es
 
--- A call of the list noted x and was carried out, and no later one strikes it
+-- A call of the list noted x and was carried out, and no later one that was carried out struck it
 pub record Stands (n k : ℕ) (calls : List Call) (x : Transition) : Type 0 where
   pub place : ℕ
   pub noted : nth calls place ≡ Some (Note x)
   pub carried-out : nth (answers (contents-of n k []) calls) place ≡ Some (Ok tt)
-  pub kept : (later : ℕ) → place < later → nth calls later ≡ Some (Strike x) → ⊥
+  pub kept : (later : ℕ) → place < later → nth calls later ≡ Some (Strike x) →
+      nth (answers (contents-of n k []) calls) later ≡ Some (Ok tt) → ⊥
 
--- So a step is on the sheet just if the last call about it that was carried out noted it
-abbrev pub Tally-stands : Type 0
-Tally-stands = (n k : ℕ) (calls : List Call) (x : Transition) → (has-transition (tally n k calls .steps) x ≡ true) ↔ Stands n k calls x
+-- The law of a tally, in the users' words: a step is there just if the last call about it that was carried out noted it, none is there
+-- twice, and they stand in the order of those notes
+pub record Tally-law (n k : ℕ) (calls : List Call) (steps : List Transition) : Type 0 where
+  pub standing : (x : Transition) → (has-transition steps x ≡ true) ↔ Stands n k calls x
+  pub once : all-once steps ≡ true
+  pub in-order : (i j : ℕ) (x y : Transition) → i < j → nth steps i ≡ Some x → nth steps j ≡ Some y →
+      (s : Stands n k calls x) (t : Stands n k calls y) → s .place < t .place

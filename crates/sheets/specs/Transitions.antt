@@ -1,8 +1,11 @@
 -- Lists of transitions: what a sheet may hold.
-use Prim.Native.Nat.{ℕ, _+_}
+use Prim.Native.Nat.{ℕ, _+_, _<_}
+use mathlib.Core.Path.{_≡_}
 use mathlib.Core.Bool.{Bool, true, false, _&&_, _||_, not, cond}
 use mathlib.Core.List.{List, [], _∷_}
 use lib.Dec.{eqb, ltb}
+use lib.ListN.{length}
+use Rattle.std.specs.Holes.{removed}
 use Rattle.sheets.specs.declared.transitions.Transition.{Transition}
 
 abbrev pub transition : ℕ → ℕ → ℕ → Transition
@@ -33,3 +36,9 @@ all-once (x ∷ xs) = not (has-transition xs x) && all-once xs
 abbrev pub without : List Transition → Transition → List Transition
 without [] x = []
 without (y ∷ ys) x = cond (same-transition y x) ys (y ∷ without ys x)
+
+-- x stands in the list, and without its place i the list is what it is without the first x
+pub record Stands-at (xs : List Transition) (x : Transition) (i : ℕ) : Type 0 where
+  pub inside : i < length xs
+  pub present : has-transition xs x ≡ true
+  pub rest : removed xs i ≡ without xs x

@@ -1,8 +1,9 @@
-// Runs of calls on a sheet, held against a tally that is fed only the sizes and the arguments.
+// Runs of calls on a sheet, held against a tally that never sees the sheet.
 ghost use mathlib.Core.Path.{_≡_};
+ghost use Rattle.std.specs.Vec.{made};
 ghost use Rattle.sheets.specs.Contents.{new-sheet-answer};
 ghost use Rattle.sheets.specs.Held.{held};
-ghost use Rattle.sheets.specs.Tallies.{after-call, call-answer, after-replay, script-after, Tally-stands};
+ghost use Rattle.sheets.specs.Tallies.{after-call, call-answer, calls-of, after-replay, script-after, Tally-law};
 use crate::refusals::Refusal;
 use crate::store::Sheet;
 use crate::transitions::Transition;
@@ -44,7 +45,7 @@ pub fn replay(
     ensures answer { λ r. ⌜ r ≡ new-sheet-answer states signals ⌝ }
     ensures after { λ _. ⌜ held (now (sheet .exit)) ≡ after-replay (held (now (sheet .entry))) states signals (now (script .entry)) ⌝ }
     ensures answered { λ _. ⌜ now (script .exit) ≡ script-after states signals (now (script .entry)) ⌝ }
-    ensures stands { λ _. ⌜ Tally-stands ⌝ }
+    ensures law { λ r. ⌜ made r (λ _. Tally-law states signals (calls-of (now (script .entry))) (held (now (sheet .exit)) .steps)) ⌝ }
 {
     sheet.new_sheet(states, signals)?;
     for i in 0..script.len() {

@@ -9,6 +9,13 @@ use crate::transitions::Transition;
 pub mod editing;
 pub mod listing;
 
+// The most states, signals and steps of a sheet.
+pub(crate) const MOST_STATES: usize = 48;
+
+pub(crate) const MOST_SIGNALS: usize = 5;
+
+pub(crate) const MOST_STEPS: usize = 512;
+
 // A sequencer sheet. Its memory is reserved when it is made, so that no later call wants any.
 #[derive(Drop)]
 pub struct Sheet {

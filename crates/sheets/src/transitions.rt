@@ -1,4 +1,6 @@
-// A step with the state that it leaves, as a sheet holds it.
+// Steps as a sheet holds them.
+
+// A step with the state that it leaves.
 #[derive(Clone, Copy, PartialEq, Eq, Debug)]
 pub struct Transition {
     pub from: usize,
@@ -8,7 +10,7 @@ pub struct Transition {
 
 // A transition with its place among all transitions of its sheet.
 #[derive(Clone, Copy, PartialEq, Eq, Debug)]
-pub struct Listed {
+pub(crate) struct Listed {
     pub place: usize,
     pub transition: Transition,
 }

@@ -1,27 +1,28 @@
 // Making a sheet, and noting and striking its steps.
 ghost use mathlib.Core.Path.{_≡_};
-ghost use mathlib.Core.List.{[]};
-ghost use mathlib.Core.Bool.{true, false};
-ghost use Prim.Native.Nat.{_<_};
-ghost use lib.ListN.{length};
+ghost use mathlib.Core.Bool.{false};
 ghost use Rattle.std.specs.Vec.{made};
 ghost use Rattle.std.specs.Options.{Cases as BySome};
-ghost use Rattle.std.specs.Holes.{removed};
-ghost use Rattle.sheets.specs.Transitions.{same-transition, has-transition, without};
-ghost use Rattle.sheets.specs.Contents.{contents-of, new-sheet-answer, after-new-sheet, range-answer, note-answer, after-note, strike-answer, after-strike};
+ghost use Rattle.sheets.specs.Transitions.{same-transition, has-transition, Stands-at};
+ghost use Rattle.sheets.specs.Contents.{blank-contents, new-sheet-answer, after-new-sheet};
+ghost use Rattle.sheets.specs.Contents.{range-answer, note-answer, after-note, strike-answer, after-strike};
 ghost use Rattle.sheets.specs.Held.{held};
+use super::MOST_SIGNALS;
+use super::MOST_STATES;
+use super::MOST_STEPS;
 use super::Sheet;
 use crate::refusals::Refusal;
 use crate::transitions::Transition;
+use crate::transitions::TransitionPartialEq;
 use std::alloc::AllocError;
 use std::alloc::Global;
 
 impl Sheet {
-    // The blank sheet: one state, no signals and no steps. This alone can want memory.
+    // The blank sheet: one state, no signals and no steps. Only this call can fail, for want of memory.
     pub fn blank(heap: Global) -> Result<Sheet, AllocError>
-        ensures { λ r. ⌜ made r (λ s. held s ≡ contents-of 1 0 []) ⌝ }
+        ensures { λ r. ⌜ made r (λ s. held s ≡ blank-contents) ⌝ }
     {
-        let steps = Vec::with_capacity(heap, 512)?;
+        let steps = Vec::with_capacity(heap, MOST_STEPS)?;
         Ok(Sheet {
             states: 1,
             signals: 0,
@@ -34,7 +35,7 @@ impl Sheet {
         ensures answer { λ r. ⌜ r ≡ new-sheet-answer states signals ⌝ }
         ensures after { λ _. ⌜ held (now (self .exit)) ≡ after-new-sheet (held (now (self .entry))) states signals ⌝ }
     {
-        if states < 1 || states > 48 || signals > 5 {
+        if states < 1 || states > MOST_STATES || signals > MOST_SIGNALS {
             return Err(Refusal::SizeOutOfLimits);
         }
         self.steps.clear();
@@ -52,7 +53,7 @@ impl Sheet {
         if let Some(_) = place_of(&self.steps, step) {
             return Err(Refusal::StepPresent);
         }
-        if self.steps.len() >= 512 {
+        if self.steps.len() >= MOST_STEPS {
             return Err(Refusal::SheetFull);
         }
         self.steps.push_reserved(step);
@@ -94,12 +95,12 @@ impl Sheet {
 fn same(a: Transition, b: Transition) -> bool
     ensures { λ r. ⌜ r ≡ same-transition a b ⌝ }
 {
-    a.from == b.from && a.label == b.label && a.to == b.to
+    a == b
 }
 
 // Where the step stands among the steps.
 fn place_of(steps: &[Transition], step: Transition) -> Option<usize>
-    ensures { λ r. ⌜ BySome r (has-transition (now (steps .entry)) step ≡ false) (λ i. (i < length (now (steps .entry))) × (has-transition (now (steps .entry)) step ≡ true) × (removed (now (steps .entry)) i ≡ without (now (steps .entry)) step)) ⌝ }
+    ensures { λ r. ⌜ BySome r (has-transition (now (steps .entry)) step ≡ false) (Stands-at (now (steps .entry)) step) ⌝ }
 {
     for (i, x) in steps.iter().enumerate() {
         if same(*x, step) {

@@ -8,9 +8,7 @@ use Rattle.sheets.proofs.store.editing.place_of.Needs as need
 pub returns-then-same : need.returns-then-same
 returns-then-same c =
     let d = transition 0 0 0 in
-    let within = c .loop-i-test .taken in
-    let f = found (c .args .steps .now) (c .loop-i .i) (c .args .step) d within (c .loop-i .inv) (sym (c .if-same .ensures tt)) in
-    (within, f .0, f .1)
+    found (c .args .steps .now) (c .loop-i .i) (c .args .step) d (c .loop-i-test .taken) (c .loop-i .inv) (sym (c .if-same .ensures tt))
 
 pub loop-i-again : need.loop-i-again
 loop-i-again c =
