@@ -1,22 +1,20 @@
 -- How many presses an attack takes: never fewer than the first round that separates the pair, and just as many if it always presses
 -- the first suitable step.
-use Prim.Native.Nat.{ℕ, zero, suc, _<_, _≤_, max, suc-le-suc}
+use Prim.Native.Nat.{ℕ, zero, suc, _≤_}
 use native.Mathlib.Nat.{le-of-suc-le-suc, le-refl}
 use native.Mathlib.Omega.{arith}
 use mathlib.Core.Path.{_≡_, refl, sym, ap, subst}
 use mathlib.Core.Logic.{inl, inr}
-use mathlib.Core.Bool.{Bool, true, false}
 use mathlib.Core.List.{List, [], _∷_}
-use lib.ListN.{length}
 use Rattle.std.proofs.shelf.Tests.{cases-bool, cases-eq, cases-lt}
 use Rattle.lts.specs.declared.steps.Step.{Step}
 use Rattle.lts.specs.declared.steps.Side.{Side}
 use Rattle.lts.specs.declared.steps.Side.the-variants.{Left, Right}
-use Rattle.lts.specs.Systems.{System, Leads, label-at, target-at, step}
+use Rattle.lts.specs.Systems.{System, label-at, target-at, step}
 use Rattle.lts.specs.Rounds.{Same, same, First-apart}
-use Rattle.lts.specs.Attacks.{own, across, First-press, Attack, press, Replies, none, reply, skip, presses-of, most-of, Always-first, Each-first}
+use Rattle.lts.specs.Attacks.{own, across, Attack, press, Replies, none, reply, skip, presses-of, most-of, Always-first, Each-first}
 use Rattle.lts.proofs.Lists.{In, step-in, in-step}
-use Rattle.lts.proofs.Rounds.{same-down, same-sym, not-same, first-apart, first-apart-at, first-apart-one}
+use Rattle.lts.proofs.Rounds.{same-sym, not-same, first-apart-at}
 use Rattle.lts.proofs.Presses.{first-press}
 
 -- ---- what an attack presses, as many rounds as it takes presses separate

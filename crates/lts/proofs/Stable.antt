@@ -1,7 +1,6 @@
 -- Some round below the number of states is stable, so states are bisimilar or separated, and a Boolean relation is enough.
 use Prim.Native.Nat.{ℕ, zero, suc, _<_, _≤_}
 use native.Mathlib.Omega.{arith}
-use mathlib.Core.Path.{_≡_}
 use mathlib.Core.Logic.{_⊎_, inl, inr}
 use Rattle.std.proofs.shelf.Tests.{cases-bool, cases-eq}
 use Rattle.lts.specs.Systems.{System, System-limits}

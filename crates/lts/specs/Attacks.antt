@@ -1,5 +1,5 @@
 -- The attacker's side of the bisimulation game: which steps press a pair of states, and attacks as finite trees.
-use Prim.Native.Nat.{ℕ, zero, suc, _<_, max}
+use Prim.Native.Nat.{ℕ, suc, _<_, max}
 use mathlib.Core.Path.{_≡_}
 use mathlib.Core.List.{List, [], _∷_}
 use lib.ListN.{length}
