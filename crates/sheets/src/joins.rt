@@ -52,10 +52,8 @@ pub impl Source for Join<'_> as JoinSource {
         if state < n {
             return self.left.step(state, place);
         }
-        match self.right.step(state - n, place) {
-            None => None,
-            Some(step) => Some(moved_by(n, step)),
-        }
+        let step = self.right.step(state - n, place)?;
+        Some(moved_by(n, step))
     }
 
     fn origin(&self, state: usize, place: usize) -> Option<Origin> {
@@ -63,10 +61,8 @@ pub impl Source for Join<'_> as JoinSource {
         if state < n {
             return self.left.origin(state, place);
         }
-        match self.right.origin(state - n, place) {
-            None => None,
-            Some(origin) => Some(on_the_right(origin)),
-        }
+        let origin = self.right.origin(state - n, place)?;
+        Some(on_the_right(origin))
     }
 }
 

@@ -35,17 +35,13 @@ pub impl Source for Sheet as SheetSource {
     }
 
     fn step(&self, state: usize, place: usize) -> Option<Step> {
-        match nth_leaving(&self.steps, state, place) {
-            None => None,
-            Some(listed) => Some(step_of(listed)),
-        }
+        let listed = nth_leaving(&self.steps, state, place)?;
+        Some(step_of(listed))
     }
 
     fn origin(&self, state: usize, place: usize) -> Option<Origin> {
-        match nth_leaving(&self.steps, state, place) {
-            None => None,
-            Some(listed) => Some(origin_of(listed)),
-        }
+        let listed = nth_leaving(&self.steps, state, place)?;
+        Some(origin_of(listed))
     }
 }
 

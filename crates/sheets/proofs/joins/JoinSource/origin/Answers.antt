@@ -6,17 +6,18 @@ use Rattle.sheets.specs.Listings.{origins-of}
 use Rattle.sheets.proofs.Sides.{right-origin}
 use Rattle.sheets.proofs.joins.JoinSource.origin.Needs as need
 
-pub returns-in-None : need.returns-in-None
-returns-in-None c =
+pub returns-in-Break-origin : need.returns-in-Break-origin
+returns-in-Break-origin c =
     let l = held (c .args .self .now .left .now) in
     let r = held (c .args .self .now .right .now) in
-    right-origin (l .states) (origins-of l) (origins-of r) (c .args .state) (c .states-n .result) (c .args .place) None
-    (c .states-n .ensures) (c .if-state-n .left) (c .in-None .ensures tt)
+    c .from-residual .ensures
+    ∙ right-origin (l .states) (origins-of l) (origins-of r) (c .args .state) (c .states-n .result) (c .args .place) None
+    (c .states-n .ensures) (c .if-state-n .left) (c .in-Break-origin .ensures tt)
 
-pub returns-in-Some : need.returns-in-Some
-returns-in-Some c =
+pub returns : need.returns
+returns c =
     let l = held (c .args .self .now .left .now) in
     let r = held (c .args .self .now .right .now) in
     ap Some (c .on-the-right .ensures)
     ∙ right-origin (l .states) (origins-of l) (origins-of r) (c .args .state) (c .states-n .result) (c .args .place)
-    (Some (c .in-Some .origin)) (c .states-n .ensures) (c .if-state-n .left) (c .in-Some .ensures tt)
+    (Some (c .in-Continue-origin .origin)) (c .states-n .ensures) (c .if-state-n .left) (c .in-Continue-origin .ensures tt)

@@ -12,20 +12,21 @@ use Rattle.sheets.proofs.joins.JoinSource.step.Needs as need
 pub moved-by-requires : need.moved-by-requires
 moved-by-requires c κs =
     let right = sheet-limits (c .args .self .now .right .now) in
-    let h = nth-all _ _ _ (c .in-Some .step) (right .fits _) (sym (c .in-Some .ensures tt)) in
+    let h = nth-all _ _ _ (c .in-Continue-step .step) (right .fits _) (sym (c .in-Continue-step .ensures tt)) in
     omega (arith, c .states-n .ensures)
 
-pub returns-in-None : need.returns-in-None
-returns-in-None c =
+pub returns-in-Break-step : need.returns-in-Break-step
+returns-in-Break-step c =
     let l = process-of (held (c .args .self .now .left .now)) in
     let r = process-of (held (c .args .self .now .right .now)) in
-    right-step l r (c .args .state) (c .states-n .result) (c .args .place) None (c .states-n .ensures) (c .if-state-n .left)
-    (c .in-None .ensures tt)
+    c .from-residual .ensures
+    ∙ right-step l r (c .args .state) (c .states-n .result) (c .args .place) None (c .states-n .ensures) (c .if-state-n .left)
+    (c .in-Break-step .ensures tt)
 
-pub returns-in-Some : need.returns-in-Some
-returns-in-Some c =
+pub returns : need.returns
+returns c =
     let l = process-of (held (c .args .self .now .left .now)) in
     let r = process-of (held (c .args .self .now .right .now)) in
     ap Some (c .moved-by .ensures)
-    ∙ right-step l r (c .args .state) (c .states-n .result) (c .args .place) (Some (c .in-Some .step)) (c .states-n .ensures)
-    (c .if-state-n .left) (c .in-Some .ensures tt)
+    ∙ right-step l r (c .args .state) (c .states-n .result) (c .args .place) (Some (c .in-Continue-step .step)) (c .states-n .ensures)
+    (c .if-state-n .left) (c .in-Continue-step .ensures tt)
