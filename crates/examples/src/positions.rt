@@ -123,10 +123,7 @@ fn under(allowed: usize, state: usize) -> Position {
 fn numbers_of_positions(rt: LibcRuntime) -> Result<(), Fail> {
     let mut sheet = Sheet::blank(rt.alloc())?;
     sheet.new_sheet(48, 5)?;
-    let join = Join {
-        left: &sheet,
-        right: &sheet,
-    };
+    let join = Join::of(&sheet, &sheet);
     let system = Surrounded::of(&join);
     check_eq((system.states(), system.labels()), (3168, 40))?;
     check_eq(system.number(under(31, 95)), Some(3167))?;

@@ -109,10 +109,7 @@ fn join_lists(rt: LibcRuntime) -> Result<(), Fail> {
     let mut new = Sheet::blank(rt.alloc())?;
     write(&mut old, 2, 1, &OLD)?;
     write(&mut new, 3, 5, &NEW)?;
-    let join = Join {
-        left: &old,
-        right: &new,
-    };
+    let join = Join::of(&old, &new);
     check_eq((join.states(), join.signals()), (5, 5))?;
     check_eq((join.step(0, 0), join.origin(0, 0)), (to(0, 1), left(1)))?;
     check_eq((join.step(2, 0), join.origin(2, 0)), (to(2, 4), right(1)))?;

@@ -13,3 +13,4 @@ pub mod Pushes
 pub mod Standing
 pub mod InOrder
 pub mod Scripts
+pub mod Joined

@@ -7,4 +7,5 @@ pub mod Listings
 pub mod SheetLimits
 pub mod Joins
 pub mod JoinLimits
+pub mod JoinLaw
 pub mod Tallies

@@ -5,6 +5,7 @@ ghost use denote.Ref.{now};
 ghost use Rattle.sheets.specs.Listings.{process-of, origins-of};
 ghost use Rattle.sheets.specs.Held.{held};
 ghost use Rattle.sheets.specs.Joins.{moved, joined-process, on-the-right, joined-origins};
+ghost use Rattle.sheets.specs.JoinLaw.{Join-law};
 ghost use Rattle.sheets.specs.JoinLimits.{join-limits, join-originated};
 use crate::store::Sheet;
 use crate::store::listing::SheetSource;
@@ -17,8 +18,25 @@ use lts::steps::Step;
 // n + q. There are as many signals as on the sheet that has more, and what comes from the right sheet has side 1.
 #[derive(Clone, Copy)]
 pub struct Join<'a> {
-    pub left: &'a Sheet,
-    pub right: &'a Sheet,
+    left: &'a Sheet,
+    right: &'a Sheet,
+}
+
+impl<'a> Join<'a> {
+    // The join of these sheets: it has exactly the steps of both.
+    pub fn of(left: &'a Sheet, right: &'a Sheet) -> Join<'a>
+        ensures sides { λ r. ⌜ (now (r .left) ≡ now (left .entry)) × (now (r .right) ≡ now (right .entry)) ⌝ }
+        ensures law { λ _. ⌜ Join-law (held (now (left .entry))) (held (now (right .entry))) ⌝ }
+    {
+        Join::beside(left, right)
+    }
+
+    // Each sheet on its side.
+    fn beside(left: &'a Sheet, right: &'a Sheet) -> Join<'a>
+        ensures { λ r. ⌜ (now (r .left) ≡ now (left .entry)) × (now (r .right) ≡ now (right .entry)) ⌝ }
+    {
+        Join { left, right }
+    }
 }
 
 pub impl Source for Join<'_> as JoinSource {

@@ -170,10 +170,7 @@ fn run(rt: &LibcRuntime) -> Result<(), AnyError> {
     let mut new = Sheet::blank(rt.alloc())?;
     write_old(rt, &mut old)?;
     write_new(rt, &mut new)?;
-    let join = Join {
-        left: &old,
-        right: &new,
-    };
+    let join = Join::of(&old, &new);
     println!(rt, "Both side by side, with the origin of each step:")?;
     list_join(rt, &join)?;
     println!(
