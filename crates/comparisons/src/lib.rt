@@ -1,3 +1,5 @@
-// Examples of what the comparer answers, worked by hand and run as tests.
+//! Examples of what the comparer answers, worked by hand and run as tests.
+#![tactic(auto)]
+
 #[cfg(test)]
 mod comparisons;

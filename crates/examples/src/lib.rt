@@ -1,4 +1,6 @@
-// Examples of what the library answers, worked by hand and run as tests.
+//! Examples of what the library answers, worked by hand and run as tests.
+#![tactic(auto)]
+
 #[cfg(test)]
 mod editing;
 #[cfg(test)]

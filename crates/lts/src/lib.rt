@@ -1,4 +1,6 @@
-// Labelled transition systems with time-outs: what gives their steps, when two states are alike, and the theorems on that.
+//! Labelled transition systems with time-outs: what gives their steps, when two states are alike, and the theorems on that.
+#![tactic(auto)]
+
 pub mod environments;
 pub mod relations;
 pub mod sources;

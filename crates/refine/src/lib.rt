@@ -1,4 +1,6 @@
-// The comparer: rounds of refinement on any plain system, and judge, strict and census on any source.
+//! The comparer: rounds of refinement on any plain system, and judge, strict and census on any source.
+#![tactic(auto)]
+
 pub(crate) mod chains;
 pub(crate) mod codes;
 pub mod comparers;

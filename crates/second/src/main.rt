@@ -1,4 +1,6 @@
-// A second comparer, held against the main one on many small joins.
+//! A second comparer, held against the main one on many small joins.
+#![tactic(auto)]
+
 use crate::chance::Dice;
 use crate::counts::Tally;
 use crate::drafts::Draft;

@@ -1,4 +1,6 @@
-// Sequencer sheets: tables of transitions that are noted and struck one by one, and are sources of steps.
+//! Sequencer sheets: tables of transitions that are noted and struck one by one, and are sources of steps.
+#![tactic(auto)]
+
 pub mod joins;
 pub mod refusals;
 pub mod replays;

@@ -1,4 +1,6 @@
-// Times the comparer on the case that standard input gives.
+//! Times the comparer on the case that standard input gives.
+#![tactic(auto)]
+
 use crate::fullest::Fullest;
 use anyhow::{Context, anyhow};
 use lts::sources::Source;

@@ -1,4 +1,6 @@
-// A guided run of the library: two sheets are made and edited, joined, and put into their environments.
+//! A guided run of the library: two sheets are made and edited, joined, and put into their environments.
+#![tactic(auto)]
+
 ghost use Rattle.std.specs.Prelude.{◌≡◌, None};
 ghost use Rattle.lts.specs.declared.environments.Position.TheVariants.{Plain, Under};
 ghost use Rattle.sheets.specs.Transitions.{transition};

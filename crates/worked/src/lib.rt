@@ -1,4 +1,6 @@
-// Worked comparisons of sheets, each with its outcome.
+//! Worked comparisons of sheets, each with its outcome.
+#![tactic(auto)]
+
 ghost use Rattle.worked.specs.Comparisons.{ComparisonsStand};
 
 // A theorem: in each comparison of the table the old and the new sheet are alike, or are separated first at the round that the table
