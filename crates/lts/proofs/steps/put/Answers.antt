@@ -6,6 +6,6 @@ use Rattle.lts.proofs.steps.put.Goals as goal
 pub returns : goal.returns
 returns c =
     record {
-      items = c.push-within.ensures.items ∙ filled_within c.args.into.now c.args.step;
-      room = c.push-within.ensures.room;
+      items = c.push_within.ensures.items ∙ filled_within c.args.into.now c.args.step;
+      room = c.push_within.ensures.room;
     }

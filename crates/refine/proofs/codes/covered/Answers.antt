@@ -7,8 +7,8 @@ use Rattle.refine.specs.Codes.{code, marked}
 use Rattle.refine.proofs.Coded.{all_at, all_each}
 use Rattle.refine.proofs.codes.covered.Goals as goal
 
-pub offset-bounds-marks-code : goal.offset-bounds-marks-code
-offset-bounds-marks-code c = let h = c.requires.placed c.loop-k.k (omega arith) in let e = c.code.ensures in search rules
+pub offset_bounds-marks-code : goal.offset_bounds-marks-code
+offset_bounds-marks-code c = let h = c.requires.placed c.loop-k.k (omega arith) in let e = c.code.ensures in search rules
 
 pub bounds-marks-code : goal.bounds-marks-code
 bounds-marks-code c = let h = c.requires.placed c.loop-k.k (omega arith) in let e = c.code.ensures in search rules

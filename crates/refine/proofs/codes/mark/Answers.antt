@@ -18,20 +18,20 @@ loop-k-init c =
       weigh_none _ (length marks) (coded_none c.args.begins.now c.args.steps.now),
     )
 
-pub offset-bounds-marks-at : goal.offset-bounds-marks-at
-offset-bounds-marks-at c = let h = c.requires.placed c.loop-k.k (omega arith) in let e = c.code-at.ensures in search rules
+pub offset_bounds-marks-at : goal.offset_bounds-marks-at
+offset_bounds-marks-at c = let h = c.requires.placed c.loop-k.k (omega arith) in let e = c.code-at.ensures in search rules
 
 pub bounds-marks-at : goal.bounds-marks-at
 bounds-marks-at c = let h = c.requires.placed c.loop-k.k (omega arith) in let e = c.code-at.ensures in search rules
 
-pub offset-bounds-marks-at-then-marks-at : goal.offset-bounds-marks-at-then-marks-at
-offset-bounds-marks-at-then-marks-at c = let h = c.requires.placed c.loop-k.k (omega arith) in let e = c.code-at.ensures in search rules
+pub offset_bounds-marks-at-then-marks-at : goal.offset_bounds-marks-at-then-marks-at
+offset_bounds-marks-at-then-marks-at c = let h = c.requires.placed c.loop-k.k (omega arith) in let e = c.code-at.ensures in search rules
 
 pub bounds-marks-at-then-marks-at : goal.bounds-marks-at-then-marks-at
 bounds-marks-at-then-marks-at c = let h = c.requires.placed c.loop-k.k (omega arith) in let e = c.code-at.ensures in search rules
 
-pub overflow-add-hash : goal.overflow-add-hash
-overflow-add-hash c =
+pub overflow_add-hash : goal.overflow_add-hash
+overflow_add-hash c =
     let m = weigh_most (coded c.args.begins.now (take c.loop-k.k c.args.steps.now)) (length c.args.marks.now) in
     let i = c.loop-k.invariant.2 in
     let s = c.weight-hash.ensures.small in

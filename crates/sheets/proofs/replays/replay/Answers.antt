@@ -15,9 +15,9 @@ loop-i-preserved c =
     let es = c.loop-i.script in
     let i = c.loop-i.i in
     let before = held c.loop-i.sheet in
-    let after = held c.carry-out.new.sheet in
-    let r = c.carry-out.result in
-    let said = c.carry-out.ensures in
+    let after = held c.carry_out.new.sheet in
+    let r = c.carry_out.result in
+    let said = c.carry_out.ensures in
     let d : Entry = record { call = Note (transition 0 0 0); answer = None } in
     let within : i < length es = omega (arith, c.loop-i-test.true, c.loop-i.auto.script) in (
       script_more before after i es d r within said.answer said.after ∙ c.loop-i.invariant.0,
@@ -31,7 +31,7 @@ returns c =
     let es = c.args.script.now in
     let last = held c.loop-i.sheet in
     let past : length c.loop-i.script ≤ c.loop-i.i = omega (arith, c.loop-i-test.false, c.loop-i.auto.script) in
-    let ok = c.in-ok-new-sheet.ensures.answer in
+    let ok = c.in_ok-new_sheet.ensures.answer in
     let is = sym (contents_end last c.loop-i.i c.loop-i.script past) ∙ c.loop-i.invariant.1 in
     record {
       answer = ok;

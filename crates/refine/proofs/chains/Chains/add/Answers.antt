@@ -17,8 +17,8 @@ returns c =
     let count : c.len-number.result ≡ length made = omega (arith, c.len-number.ensures, t.made.ok.0) in
     let next : c.index-next.result.now ≡ get_or heads (bucket hash) 0 =
     get_or_read_under heads c.bucket-b.result (length heads) c.index-next.result.now 0 c.index-next.ensures (omega (arith, c.bucket-b.ensures.small, t.buckets, t.heads.ok.0)) refl ∙ ap (λ (i : ℕ). get_or heads i 0) b in
-    let more : vec_items c.push-reserved.new.self ≡ made ++ class hash first (get_or heads (bucket hash) 0) ∷ [] =
-    c.push-reserved.ensures.items ∙ ap (λ (n : ℕ). made ++ class hash first n ∷ []) next in
+    let more : vec_items c.push_reserved.new.self ≡ made ++ class hash first (get_or heads (bucket hash) 0) ∷ [] =
+    c.push_reserved.ensures.items ∙ ap (λ (n : ℕ). made ++ class hash first n ∷ []) next in
     let inside : bucket hash < length heads = omega (arith, c.bucket-b.ensures.small, b, t.buckets, t.heads.ok.0) in record {
       number = count;
       made = more;

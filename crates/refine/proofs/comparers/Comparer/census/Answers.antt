@@ -14,8 +14,8 @@ use Rattle.refine.proofs.Runs.{front_long}
 use Rattle.refine.proofs.Counts.{settled, front_numbers, front_met, census_of}
 use Rattle.refine.proofs.comparers.Comparer.census.Goals as goal
 
-pub write-down-requires : goal.write-down-requires
-write-down-requires g c =
+pub write_down-requires : goal.write_down-requires
+write_down-requires g c =
     let M : Process = g.S.Source.meaning c.args.source.now in
     let f = g.S.Source.limits c.args.source.now in
     let w = surrounded_limits M f in
@@ -54,6 +54,6 @@ returns g c =
     ap (λ (n : ℕ). get_or (numbers n (take (m - 0) begins)) k 0) labels
     ∙ front_numbers (surrounded M) t.0 (vec_items kept.begins) begins w.some_label c.deref.ensures.value t.2 m k (omega (arith, l, is)) (number_below M (Plain k) l) (omega (arith, l, is, long)) in (
       omega (arith, is, c.if-classes-states.false),
-      census_of M f t.0 t.1 front as_long at c.args.classes.now c.write-down.new.classes c.write-down.result c.write-down.ensures.written
-          (subst (λ (n : ℕ). Counted n front c.write-down.result) (long ∙ is ∙ sym as_long) c.write-down.ensures.counted),
+      census_of M f t.0 t.1 front as_long at c.args.classes.now c.write_down.new.classes c.write_down.result c.write_down.ensures.written
+          (subst (λ (n : ℕ). Counted n front c.write_down.result) (long ∙ is ∙ sym as_long) c.write_down.ensures.counted),
     )

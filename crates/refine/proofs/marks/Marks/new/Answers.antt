@@ -5,8 +5,8 @@ use Rattle.refine.proofs.marks.Marks.new.Goals as goal
 
 pub invariant-of-result : goal.invariant-of-result
 invariant-of-result c =
-    let t = c.in-ok-stamps.stamps in
+    let t = c.in_ok-stamps.stamps in
     let numbers : List ℕ = c.blank.new.numbers in
-    let long : length numbers ≡ t.len = omega (arith, c.blank.auto.numbers, ap length c.as-mut-slice.ensures.value, t.ok.0) in
+    let long : length numbers ≡ t.len = omega (arith, c.blank.auto.numbers, ap length c.as_mut_slice.ensures.value, t.ok.0) in
     let whole : take t.len (numbers ++ drop (length numbers) t.items) ≡ numbers = lent_whole t.len numbers (drop (length numbers) t.items) long in
     (search rules, ((λ k. omega (arith, ap (λ (xs : List ℕ). get_or xs k 0) whole, c.blank.ensures k)), tt))

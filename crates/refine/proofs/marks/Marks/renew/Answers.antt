@@ -7,7 +7,7 @@ pub invariant-of-self-2 : goal.invariant-of-self-2
 invariant-of-self-2 c =
     let t = c.args.self.now.stamps in
     let numbers : List ℕ = c.blank.new.numbers in
-    let long : length numbers ≡ t.len = omega (arith, c.blank.auto.numbers, ap length c.as-mut-slice.ensures.value, t.ok.0) in
+    let long : length numbers ≡ t.len = omega (arith, c.blank.auto.numbers, ap length c.as_mut_slice.ensures.value, t.ok.0) in
     let whole : take t.len (numbers ++ drop (length numbers) t.items) ≡ numbers = lent_whole t.len numbers (drop (length numbers) t.items) long in
     (c.args.self.now.long, ((λ k. omega (arith, ap (λ (xs : List ℕ). get_or xs k 0) whole, c.blank.ensures k)), tt))
 
@@ -15,6 +15,6 @@ pub returns : goal.returns
 returns c k =
     let t = c.args.self.now.stamps in
     let numbers : List ℕ = c.blank.new.numbers in
-    let long : length numbers ≡ t.len = omega (arith, c.blank.auto.numbers, ap length c.as-mut-slice.ensures.value, t.ok.0) in
+    let long : length numbers ≡ t.len = omega (arith, c.blank.auto.numbers, ap length c.as_mut_slice.ensures.value, t.ok.0) in
     let whole : take t.len (numbers ++ drop (length numbers) t.items) ≡ numbers = lent_whole t.len numbers (drop (length numbers) t.items) long in
     omega (arith, ap (λ (xs : List ℕ). get_or xs k 0) whole, c.blank.ensures k)

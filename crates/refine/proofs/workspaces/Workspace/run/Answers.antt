@@ -29,8 +29,8 @@ refine-requires g c =
       formed = subst SystemLimits (sym c.of-table.ensures) w;
       left = omega (arith, states, c.requires.left);
       right = omega (arith, states, c.requires.right);
-      long = front_long t.states c.deref-mut.result.now (omega (arith, few, ap length c.deref-mut.ensures.value, self.begins.ok.0, self.long));
-      new-long = front_long t.states c.deref-mut-2.result.now (omega (arith, few, ap length c.deref-mut-2.ensures.value, self.next.ok.0, self.wide));
+      long = front_long t.states c.deref_mut.result.now (omega (arith, few, ap length c.deref_mut.ensures.value, self.begins.ok.0, self.long));
+      new_long = front_long t.states c.deref_mut-2.result.now (omega (arith, few, ap length c.deref_mut-2.ensures.value, self.next.ok.0, self.wide));
     }
 
 pub returns : goal.returns
@@ -42,7 +42,7 @@ returns g c =
     let states : t.states ≡ S.states = ap (λ (S : System). S.states) c.of-table.ensures in
     let few : t.states ≤ 3168 = omega (arith, states, w.few_states) in
     let long : length c.refine.new.old ≡ t.states =
-    c.refine.auto.old ∙ front_long t.states c.deref-mut.result.now (omega (arith, few, ap length c.deref-mut.ensures.value, self.begins.ok.0, self.long)) in
+    c.refine.auto.old ∙ front_long t.states c.deref_mut.result.now (omega (arith, few, ap length c.deref_mut.ensures.value, self.begins.ok.0, self.long)) in
     refined_front S c.args.left c.args.right c.refine.result c.refine.new.old _
     (λ k l. front_read self.begins.len k c.refine.new.old _ _ (omega (arith, l, long, states)) (omega (arith, l, few, states, self.long)))
     (subst (λ (S : System). Refined S c.args.left c.args.right c.refine.result c.refine.new.old) c.of-table.ensures c.refine.ensures)

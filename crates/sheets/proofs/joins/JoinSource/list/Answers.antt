@@ -11,4 +11,4 @@ returns-else-state-n c =
     let l = process_of (held c.args.self.now.left.now) in
     let r = process_of (held c.args.self.now.right.now) in
     let right = joined_right l r c.args.state c.states-n.result c.states-n.ensures c.if-state-n.false in
-    record { items = c.list-behind.ensures.items ∙ ap (filled_by c.args.into.now) (sym right); room = c.list-behind.ensures.room }
+    record { items = c.list_behind.ensures.items ∙ ap (filled_by c.args.into.now) (sym right); room = c.list_behind.ensures.room }

@@ -7,24 +7,24 @@ use Rattle.lts.proofs.Nth.{nth_all}
 use Rattle.sheets.proofs.Sides.{right_step}
 use Rattle.sheets.proofs.joins.JoinSource.step.Goals as goal
 
-pub moved-by-requires : goal.moved-by-requires
-moved-by-requires c =
+pub moved_by-requires : goal.moved_by-requires
+moved_by-requires c =
     let right = sheet_limits c.args.self.now.right.now in
-    let h = nth_all _ _ _ c.in-ok-step.step (right.fits _) (sym c.in-ok-step.ensures) in
+    let h = nth_all _ _ _ c.in_ok-step.step (right.fits _) (sym c.in_ok-step.ensures) in
     omega (arith, c.states-n.ensures)
 
-pub returns-in-err-step : goal.returns-in-err-step
-returns-in-err-step c =
+pub returns-in_err-step : goal.returns-in_err-step
+returns-in_err-step c =
     let l = process_of (held c.args.self.now.left.now) in
     let r = process_of (held c.args.self.now.right.now) in
-    c.from-residual.ensures
+    c.from_residual.ensures
     ∙ right_step l r c.args.state c.states-n.result c.args.place None c.states-n.ensures c.if-state-n.false
-    c.in-err-step.ensures
+    c.in_err-step.ensures
 
 pub returns : goal.returns
 returns c =
     let l = process_of (held c.args.self.now.left.now) in
     let r = process_of (held c.args.self.now.right.now) in
-    ap Some c.moved-by.ensures
-    ∙ right_step l r c.args.state c.states-n.result c.args.place (Some c.in-ok-step.step) c.states-n.ensures
-    c.if-state-n.false c.in-ok-step.ensures
+    ap Some c.moved_by.ensures
+    ∙ right_step l r c.args.state c.states-n.result c.args.place (Some c.in_ok-step.step) c.states-n.ensures
+    c.if-state-n.false c.in_ok-step.ensures

@@ -11,4 +11,4 @@ returns-else-state-n c =
     let l = process_of (held c.args.self.now.left.now) in
     let r = process_of (held c.args.self.now.right.now) in
     let right = joined_right l r c.args.state c.states-n.result c.states-n.ensures c.if-state-n.false in
-    c.step-count-else-state-n.ensures ∙ sym (ap length right ∙ length-map _ _)
+    c.step_count-else-state-n.ensures ∙ sym (ap length right ∙ length-map _ _)

@@ -10,8 +10,8 @@ pub invariant-of-self : goal.invariant-of-self
 invariant-of-self c =
     let s = c.args.self.now in
     let x = c.args.step in
-    let after = c.push-reserved.ensures.items in
-    let fit : fits s.states s.signals x ≡ true = grind (arith, nat_tests, c.in-ok-in-range.ensures) in
+    let after = c.push_reserved.ensures.items in
+    let fit : fits s.states s.signals x ≡ true = grind (arith, nat_tests, c.in_ok-in_range.ensures) in
     let fresh : has_transition s.steps.items x ≡ false = search rules in
     let all : all_fit s.states s.signals (s.steps.items ++ x ∷ []) ≡ true = fit_push _ _ _ x s.fit fit in
     let once : all_once (s.steps.items ++ x ∷ []) ≡ true = once_push _ x s.once fresh in

@@ -11,8 +11,8 @@ use Rattle.sheets.proofs.Leaving.{leaving_from, leaving_here, leaving_later, lea
 use Rattle.sheets.proofs.store.listing.list_leaving.Goals as goal
 use Rattle.sheets.proofs.store.listing.list_leaving.Goals.{then-x-state, else-x-state}
 
-pub step-behind-requires : goal.step-behind-requires
-step-behind-requires c =
+pub step_behind-requires : goal.step_behind-requires
+step_behind-requires c =
     record { few = c.requires.few; narrow = All-get_or Narrow c.args.steps.now c.loop-x.x-index (transition 0 0 0) c.loop-x-test.true c.requires.narrow }
 
 pub loop-x-preserved : goal.loop-x-preserved
@@ -28,7 +28,7 @@ loop-x-preserved c =
     let all = made (leaving xs p) in
     elim c.if-x-state.branch [
       | then-x-state w ↦
-          let put = w.put.ensures.items ∙ ap (λ (s : Step). filled_by c.loop-x.into (s ∷ [])) w.step-behind.ensures in
+          let put = w.put.ensures.items ∙ ap (λ (s : Step). filled_by c.loop-x.into (s ∷ [])) w.step_behind.ensures in
           fills_put c.args.into.now c.loop-x.into w.put.new.into c.if-x-state.into left rest all here put w.put.ensures.room w.into-is
           (ap made (leaving_here xs i p d c.loop-x-test.true w.if-x-state.true)) c.loop-x.invariant
       | else-x-state w ↦

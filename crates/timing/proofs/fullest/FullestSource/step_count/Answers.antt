@@ -5,4 +5,4 @@ use Rattle.timing.specs.FullestLimits.{length_listed}
 use Rattle.timing.proofs.fullest.FullestSource.step_count.Goals as goal
 
 pub returns : goal.returns
-returns c = c.count-at.ensures ∙ sym (length_listed (full_count c.args.state) (full_step c.args.state))
+returns c = c.count_at.ensures ∙ sym (length_listed (full_count c.args.state) (full_step c.args.state))

@@ -9,6 +9,6 @@ use Rattle.sheets.proofs.store.listing.SheetSource.list.Goals as goal
 pub returns : goal.returns
 returns c =
     record {
-      items = c.list-behind.ensures.items ∙ ap (filled_by c.args.into.now) (moved_none ((process_of (held c.args.self.now)).from c.args.state));
-      room = c.list-behind.ensures.room;
+      items = c.list_behind.ensures.items ∙ ap (filled_by c.args.into.now) (moved_none ((process_of (held c.args.self.now)).from c.args.state));
+      room = c.list_behind.ensures.room;
     }

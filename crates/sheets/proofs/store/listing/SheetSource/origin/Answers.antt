@@ -4,14 +4,14 @@ use Rattle.sheets.specs.Listings.{origin_of}
 use Rattle.sheets.proofs.Leaving.{nth_made}
 use Rattle.sheets.proofs.store.listing.SheetSource.origin.Goals as goal
 
-pub returns-in-err-listed : goal.returns-in-err-listed
-returns-in-err-listed c =
-    c.from-residual.ensures
+pub returns-in_err-listed : goal.returns-in_err-listed
+returns-in_err-listed c =
+    c.from_residual.ensures
     ∙ nth_made origin_of c.deref.result.now c.args.self.now.steps.items c.args.state c.args.place None
-    c.in-err-listed.ensures c.deref.ensures.value
+    c.in_err-listed.ensures c.deref.ensures.value
 
 pub returns : goal.returns
 returns c =
-    ap Some c.origin-of.ensures
+    ap Some c.origin_of.ensures
     ∙ nth_made origin_of c.deref.result.now c.args.self.now.steps.items c.args.state c.args.place
-    (Some c.in-ok-listed.listed) c.in-ok-listed.ensures c.deref.ensures.value
+    (Some c.in_ok-listed.listed) c.in_ok-listed.ensures c.deref.ensures.value

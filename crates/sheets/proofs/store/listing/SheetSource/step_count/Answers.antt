@@ -6,4 +6,4 @@ use Rattle.sheets.proofs.store.listing.SheetSource.step_count.Goals as goal
 
 pub returns : goal.returns
 returns c =
-    c.count-leaving.ensures ∙ ap (λ xs. length (leaving xs c.args.state)) c.deref.ensures.value ∙ sym (length-map _ step_of)
+    c.count_leaving.ensures ∙ ap (λ xs. length (leaving xs c.args.state)) c.deref.ensures.value ∙ sym (length-map _ step_of)

@@ -12,12 +12,12 @@ use Rattle.refine.specs.Copies.{copied_process}
 use Rattle.refine.proofs.Places.{nth_past}
 use Rattle.refine.proofs.tables.copies.asking.CopiedSource.origin.Goals as goal
 
-pub returns-then-place-step-count : goal.returns-then-place-step-count
-returns-then-place-step-count c =
+pub returns-then-place-step_count : goal.returns-then-place-step_count
+returns-then-place-step_count c =
     let xs : List Step = (copied_process c.args.self.now).from c.args.state in
-    sym (slice_get-map (λ (s : Step). origin Left 0) xs c.args.place ∙ ap (option_map (λ (s : Step). origin Left 0)) (nth_past xs c.args.place (omega (arith, c.step-count.ensures, c.if-place-step-count.true))))
+    sym (slice_get-map (λ (s : Step). origin Left 0) xs c.args.place ∙ ap (option_map (λ (s : Step). origin Left 0)) (nth_past xs c.args.place (omega (arith, c.step_count.ensures, c.if-place-step_count.true))))
 
 pub returns : goal.returns
 returns c =
     let xs : List Step = (copied_process c.args.self.now).from c.args.state in
-    sym (slice_get-map (λ (s : Step). origin Left 0) xs c.args.place ∙ ap (option_map (λ (s : Step). origin Left 0)) (nth_read xs c.args.place (step 0 0) (omega (arith, c.step-count.ensures, c.if-place-step-count.false))))
+    sym (slice_get-map (λ (s : Step). origin Left 0) xs c.args.place ∙ ap (option_map (λ (s : Step). origin Left 0)) (nth_read xs c.args.place (step 0 0) (omega (arith, c.step_count.ensures, c.if-place-step_count.false))))
