@@ -13,8 +13,8 @@ mark-requires c =
       fresh = λ k. omega (arith, ap (λ (xs : List ℕ). get_or xs k 0) c.as_mut_slice.ensures.value, c.renew.ensures k);
     }
 
-pub invariant-of-self : goal.invariant-of-self
-invariant-of-self c =
+pub invariant_of-self : goal.invariant_of-self
+invariant_of-self c =
     let t = c.renew.new.self.stamps in
     let marks : List ℕ = c.mark.new.marks in
     let long : length marks ≡ t.len = omega (arith, c.mark.auto.marks, ap length c.as_mut_slice.ensures.value, t.ok.0) in

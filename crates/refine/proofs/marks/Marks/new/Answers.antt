@@ -3,8 +3,8 @@ use Rattle.std.proofs.Common.{◌≡◌, ℕ, List, ◌++◌, length, get_or, ta
 use Rattle.refine.proofs.Blanks.{lent_whole}
 use Rattle.refine.proofs.marks.Marks.new.Goals as goal
 
-pub invariant-of-result : goal.invariant-of-result
-invariant-of-result c =
+pub invariant_of-result : goal.invariant_of-result
+invariant_of-result c =
     let t = c.in_ok-stamps.stamps in
     let numbers : List ℕ = c.blank.new.numbers in
     let long : length numbers ≡ t.len = omega (arith, c.blank.auto.numbers, ap length c.as_mut_slice.ensures.value, t.ok.0) in

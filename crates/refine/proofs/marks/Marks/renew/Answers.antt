@@ -3,8 +3,8 @@ use Rattle.std.proofs.Common.{◌≡◌, ℕ, List, ◌++◌, length, get_or, ta
 use Rattle.refine.proofs.Blanks.{lent_whole}
 use Rattle.refine.proofs.marks.Marks.renew.Goals as goal
 
-pub invariant-of-self-2 : goal.invariant-of-self-2
-invariant-of-self-2 c =
+pub invariant_of-self-2 : goal.invariant_of-self-2
+invariant_of-self-2 c =
     let t = c.args.self.now.stamps in
     let numbers : List ℕ = c.blank.new.numbers in
     let long : length numbers ≡ t.len = omega (arith, c.blank.auto.numbers, ap length c.as_mut_slice.ensures.value, t.ok.0) in

@@ -6,13 +6,20 @@ use Rattle.sheets.proofs.Fitting.{fit_push}
 use Rattle.sheets.proofs.Once.{once_push}
 use Rattle.sheets.proofs.store.Sheet.note.Goals as goal
 
-pub invariant-of-self : goal.invariant-of-self
-invariant-of-self c =
+pub invariant_of-self-clause-fit : goal.invariant_of-self-clause-fit
+invariant_of-self-clause-fit c =
     let s = c.args.self.now in
     let x = c.args.step in
     let after = c.push_reserved.ensures.items in
     let fit : fits s.states s.signals x ≡ true = grind (arith, nat_tests, c.in_ok-in_range.ensures) in
-    let fresh : has_transition s.steps.items x ≡ false = search rules in
     let all : all_fit s.states s.signals (s.steps.items ++ x ∷ []) ≡ true = fit_push _ _ _ x s.fit fit in
+    rw after all
+
+pub invariant_of-self-clause-once : goal.invariant_of-self-clause-once
+invariant_of-self-clause-once c =
+    let s = c.args.self.now in
+    let x = c.args.step in
+    let after = c.push_reserved.ensures.items in
+    let fresh : has_transition s.steps.items x ≡ false = search rules in
     let once : all_once (s.steps.items ++ x ∷ []) ≡ true = once_push _ x s.once fresh in
-    (search rules, (search rules, (search rules, (search rules, (search rules, (rw after all, (rw after once, tt)))))))
+    rw after once

@@ -8,8 +8,8 @@ use Rattle.lts.specs.Environments.{bare}
 use Rattle.refine.specs.Tables.{rows, table_system}
 use Rattle.refine.proofs.tables.copies.Copied.of.Goals as goal
 
-pub invariant-of-result : goal.invariant-of-result
-invariant-of-result g c =
+pub invariant_of-result : goal.invariant_of-result
+invariant_of-result g c =
     let M : Process = g.S.Source.meaning c.args.source.now in
     let f = g.S.Source.limits c.args.source.now in
     let t = c.of.result in
