@@ -1,11 +1,11 @@
 -- The codes of steps, one step more; and `all` by places.
-use Rattle.std.proofs.Common.{◌≡◌, ℕ, zero, suc, ◌+◌, ◌*◌, ◌<◌, ◌≤◌, Bool, true, false, cond, ◌&&◌, ◌||◌, eqb, ◌⊎◌, List, [], ◌∷◌, ◌++◌, length, get_or, take, sym, refl, ap, ◌∙◌, subst, inl, inr, suc-le-suc, zero-le, le_of_suc-le-suc, not-suc-le-zero, arith}
+use Rattle.std.proofs.Common.{◌≡◌, ℕ, zero, suc, ◌+◌, ◌<◌, Bool, true, false, ◌||◌, eqb, List, [], ◌∷◌, ◌++◌, length, get_or, take, sym, refl, ap, ◌∙◌, inl, inr, suc-le-suc, zero-le, le_of_suc-le-suc, not-suc-le-zero}
 use Rattle.std.proofs.lemmas.List.{take_more}
-use Rattle.std.proofs.lemmas.Bool.{cases_Bool, cases_eq, both_ways, eq-eqb, ne_eqb, and_left, and_right, and_from}
+use Rattle.std.proofs.lemmas.Bool.{cases_eq, eq-eqb, ne_eqb, and_left, and_right, and_from}
 use Rattle.lts.specs.declared.steps.Step.{Step}
 use Rattle.lts.specs.Lists.{any, all}
 use Rattle.lts.specs.Systems.{step}
-use Rattle.refine.specs.Codes.{code, coded, marked}
+use Rattle.refine.specs.Codes.{code, coded}
 
 module _ {X : Type 0} (f : X → Bool) where
   any_push : (xs : List X) (x : X) → any f (xs ++ x ∷ []) ≡ (any f xs || f x)

@@ -1,10 +1,10 @@
 -- Numbers counted as they are first met, and a census from a run of rounds.
-use Rattle.std.proofs.Common.{◌≡◌, ℕ, ◌+◌, ◌-◌, ◌/◌, ◌<◌, ◌≤◌, ◌↔◌, List, length, get_or, take, sym, refl, ap, ◌∙◌, inl, inr, arith}
+use Rattle.std.proofs.Common.{◌≡◌, ℕ, ◌+◌, ◌-◌, ◌/◌, ◌<◌, ◌≤◌, ◌↔◌, List, length, get_or, take, sym, ap, ◌∙◌, inl, inr, arith}
 use Rattle.std.proofs.lemmas.List.{get_or-take, get_or-map}
 use Rattle.std.proofs.lemmas.Bool.{cases_eq, cases_lt}
 use Rattle.lts.specs.declared.environments.Position.TheVariants.{Plain}
 use Rattle.lts.specs.Systems.{System}
-use Rattle.lts.specs.Rounds.{Same, Stable}
+use Rattle.lts.specs.Rounds.{Stable}
 use Rattle.lts.specs.Processes.{Process, ProcessLimits}
 use Rattle.lts.specs.Environments.{surrounded}
 use Rattle.lts.specs.Positions.{number_below}

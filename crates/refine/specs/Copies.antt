@@ -1,5 +1,5 @@
 -- What a copy of a source means, and that it is within the limits of a source.
-use Rattle.std.specs.Prelude.{ℕ, suc, ◌+◌, ◌<◌, ◌≤◌, List, [], ◌∷◌, map, length, slice_index_or}
+use Rattle.std.specs.Prelude.{ℕ, suc, ◌+◌, ◌<◌, List, [], ◌∷◌, map, length, slice_index_or}
 use Rattle.std.proofs.Common.{suc-le-suc, zero-le, arith}
 use Rattle.std.proofs.lemmas.List.{length-map}
 use Rattle.std.specs.List.{AllByRecursion}

@@ -6,7 +6,8 @@ use lts::steps::Step;
 
 // A step's code stands for its label and the class of its target. It is counted from where the codes of that class begin.
 fn code(begins: &[u32], step: Step) -> usize
-    requires { step.target < length begins.now }
+    requires placed { step.target < length begins.now }
+    requires small { code_of begins.now step < 2 ^ 64 }
     ensures { result ≡ code_of begins.now step }
 {
     begins[step.target] as usize + step.label

@@ -1,6 +1,5 @@
 -- What the walk keeps from step to step.
 use Rattle.std.proofs.Common.{◌≡◌, ℕ, ◌<◌, get_or}
-use Rattle.lts.specs.declared.steps.Step.{Step}
 use Rattle.lts.specs.Systems.{step}
 use Rattle.refine.specs.Codes.{code}
 use Rattle.refine.proofs.codes.covered.Given as goal

@@ -1,9 +1,8 @@
 -- The marks are those of the steps so far, and so is the weight.
-use Rattle.std.proofs.Common.{◌≡◌, ℕ, ◌+◌, ◌*◌, ◌^◌, ◌<◌, ◌≤◌, Bool, eqb, List, length, get_or, take, sym, refl, ap, ◌∙◌, subst, arith, rules}
+use Rattle.std.proofs.Common.{◌≡◌, ℕ, ◌+◌, ◌<◌, ◌≤◌, List, length, get_or, take, sym, ap, ◌∙◌, subst, arith, rules}
 use Rattle.std.proofs.lemmas.List.{take_all}
 use Rattle.lts.specs.declared.steps.Step.{Step}
-use Rattle.lts.specs.Systems.{step}
-use Rattle.refine.specs.Codes.{code, coded, weigh, weight}
+use Rattle.refine.specs.Codes.{coded, weigh}
 use Rattle.refine.proofs.Weights.{weigh_most, weigh_none}
 use Rattle.refine.proofs.Coded.{coded_none}
 use Rattle.refine.proofs.Marking.{Marked, marked_none, marked_more, marked_again, weighed_more, weighed_again, bound_more}

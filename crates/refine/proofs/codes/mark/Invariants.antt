@@ -1,7 +1,5 @@
 -- What marking keeps from step to step.
 use Rattle.std.proofs.Common.{◌≡◌, ℕ, ◌<◌, ◌≤◌, eqb, length, get_or, take}
-use Rattle.lts.specs.declared.steps.Step.{Step}
-use Rattle.lts.specs.Systems.{step}
 use Rattle.refine.specs.Codes.{coded, weigh}
 use Rattle.refine.proofs.codes.mark.Given as goal
 

@@ -1,13 +1,13 @@
 -- A walk down the chain of the hash's bucket meets every class that could fit.
-use Rattle.std.proofs.Common.{◌≡◌, ℕ, suc, ◌+◌, ◌-◌, ◌<◌, Bool, true, false, ◌&&◌, eqb, List, length, get_or, vec_items, sym, refl, ap, ◌∙◌, subst, arith, rules}
+use Rattle.std.proofs.Common.{◌≡◌, ℕ, suc, ◌-◌, ◌<◌, ◌&&◌, eqb, List, length, get_or, vec_items, sym, refl, ap, ◌∙◌, arith}
 use Rattle.std.proofs.lemmas.List.{get_or_read_under}
-use Rattle.std.proofs.lemmas.Bool.{and_parts, and_from, eqb-true, eq-eqb, both_ways}
+use Rattle.std.proofs.lemmas.Bool.{and_from, eq-eqb, both_ways}
 use Rattle.lts.specs.Systems.{System}
 use Rattle.refine.specs.declared.chains.Class.{Class}
 use Rattle.refine.specs.Codes.{marked}
 use Rattle.refine.specs.Tables.{table_system}
-use Rattle.refine.specs.Chains.{bucket, class, hash_at, first_at, next_at, Fit}
-use Rattle.refine.proofs.Chaining.{walk_start, walk_more, LeftOut}
+use Rattle.refine.specs.Chains.{bucket, class, hash_at, next_at, Fit}
+use Rattle.refine.proofs.Chaining.{walk_start, walk_more}
 use Rattle.refine.proofs.chains.Chains.seek.Goals as goal
 
 pub loop-link-init : goal.loop-link-init

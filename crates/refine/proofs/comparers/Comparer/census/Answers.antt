@@ -1,15 +1,14 @@
 -- The front of the class numbers of a stable round is the census.
-use Rattle.std.proofs.Common.{◌≡◌, ℕ, ◌-◌, ◌/◌, ◌<◌, ◌≤◌, List, length, get_or, take, vec_items, sym, ap, ◌∙◌, subst, arith}
+use Rattle.std.proofs.Common.{◌≡◌, ℕ, ◌-◌, ◌/◌, ◌<◌, List, length, get_or, take, vec_items, sym, ap, ◌∙◌, subst, arith}
 use lib.ListN.{length-map}
 use Rattle.lts.specs.declared.environments.Position.TheVariants.{Plain}
-use Rattle.lts.specs.Systems.{System}
 use Rattle.lts.specs.Classes.{rank}
 use Rattle.lts.specs.Processes.{Process}
 use Rattle.lts.specs.Environments.{surrounded}
 use Rattle.lts.specs.Limits.{surrounded_limits}
 use Rattle.lts.specs.Positions.{number_below}
 use Rattle.refine.specs.Ranks.{numbers}
-use Rattle.refine.specs.Censuses.{AsMet, Counted, Fronted}
+use Rattle.refine.specs.Censuses.{AsMet, Counted}
 use Rattle.refine.proofs.Runs.{front_long}
 use Rattle.refine.proofs.Counts.{settled, front_numbers, front_met, census_of}
 use Rattle.refine.proofs.comparers.Comparer.census.Goals as goal

@@ -1,6 +1,5 @@
 -- What a run of rounds tells of two states.
 use Rattle.std.proofs.Common.{vec_items, arith}
-use Rattle.lts.specs.Systems.{System}
 use Rattle.refine.proofs.Runs.{compared}
 use Rattle.refine.proofs.comparers.Comparer.compare.Goals as goal
 

@@ -1,5 +1,5 @@
 -- The codes of the steps have the new stamp, and no others.
-use Rattle.std.proofs.Common.{◌≡◌, ℕ, ◌<◌, ◌≤◌, eqb, List, ◌++◌, length, get_or, take, drop, sym, ap, ◌∙◌, subst, arith}
+use Rattle.std.proofs.Common.{◌≡◌, ℕ, eqb, List, ◌++◌, length, get_or, take, drop, sym, ap, ◌∙◌, subst, arith}
 use Rattle.refine.specs.Codes.{coded, weigh, Placed}
 use Rattle.refine.proofs.Blanks.{lent_whole}
 use Rattle.refine.proofs.marks.Marks.mark.Goals as goal
@@ -19,7 +19,7 @@ invariant_of-self c =
     let marks : List ℕ = c.mark.new.marks in
     let long : length marks ≡ t.len = omega (arith, c.mark.auto.marks, ap length c.as_mut_slice.ensures.value, t.ok.0) in
     let whole : take t.len (marks ++ drop (length marks) t.items) ≡ marks = lent_whole t.len marks (drop (length marks) t.items) long in
-    (c.renew.new.self.long, ((λ k. omega (arith, ap (λ (xs : List ℕ). get_or xs k 0) whole, c.mark.ensures.bound k)), tt))
+    record { long = c.renew.new.self.long; bound = λ k. omega (arith, ap (λ (xs : List ℕ). get_or xs k 0) whole, c.mark.ensures.bound k) }
 
 pub returns : goal.returns
 returns c =

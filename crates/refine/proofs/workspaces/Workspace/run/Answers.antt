@@ -1,8 +1,6 @@
 -- The memory is enough for the system, and the rounds are run on its table.
-use Rattle.std.proofs.Common.{◌≡◌, ℕ, ◌+◌, ◌*◌, ◌<◌, ◌≤◌, List, length, get_or, take, sym, refl, ap, ◌∙◌, subst, arith}
-use Rattle.std.proofs.lemmas.Nat.{mul-le}
+use Rattle.std.proofs.Common.{◌≡◌, ◌≤◌, length, sym, ap, ◌∙◌, subst, arith}
 use Rattle.lts.specs.Systems.{System, SystemLimits}
-use Rattle.refine.specs.Tables.{table_system}
 use Rattle.refine.specs.Runs.{Refined}
 use Rattle.refine.proofs.Tabled.{steps_most}
 use Rattle.refine.proofs.Runs.{refined_front, front_long, front_read}

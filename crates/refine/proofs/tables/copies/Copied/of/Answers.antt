@@ -1,8 +1,8 @@
 -- A copy is within the limits of the source, and means what it means.
-use Rattle.std.proofs.Common.{◌≡◌, ℕ, ◌+◌, ◌<◌, List, length, get_or, sym, refl, ap, ◌∙◌, subst, arith}
+use Rattle.std.proofs.Common.{◌≡◌, ℕ, ◌+◌, ◌<◌, List, length, get_or, sym, ap, subst, arith}
 use Rattle.std.proofs.ByRecursion.{All-get_or}
 use Rattle.lts.specs.declared.steps.Step.{Step}
-use Rattle.lts.specs.Systems.{System, Listing, InRange, step}
+use Rattle.lts.specs.Systems.{System, InRange, step}
 use Rattle.lts.specs.Processes.{Process}
 use Rattle.lts.specs.Environments.{bare}
 use Rattle.refine.specs.Tables.{rows, table_system}
@@ -20,22 +20,15 @@ invariant_of-result g c =
     let fits : (p k : ℕ) → k < length (rows t.states t.starts.now t.steps.now p) →
     InRange (M.signals + 2) M.states (get_or (rows t.states t.starts.now t.steps.now p) k (step 0 0)) = λ p k l.
     subst (λ (xs : List Step). InRange (M.signals + 2) M.states (get_or xs k (step 0 0))) (sym (row p))
-    (All-get_or (InRange (M.signals + 2) M.states) (M.from p) k (step 0 0) (omega (arith, l, ap length (row p))) (f.fits p)) in (
-      omega (arith, labels, c.signals.ensures),
-      (
-        omega (arith, states, f.some_state),
-        (
-          omega (arith, states, f.few_states),
-          (
-            omega (arith, c.signals.ensures, f.few_signals),
-            (
-              (λ p. omega (arith, ap length (row p), f.few_steps p)),
-              ((λ p k l. omega (arith, (fits p k l).0, c.signals.ensures)), ((λ p k l. omega (arith, (fits p k l).1, states)), tt)),
-            ),
-          ),
-        ),
-      ),
-    )
+    (All-get_or (InRange (M.signals + 2) M.states) (M.from p) k (step 0 0) (omega (arith, l, ap length (row p))) (f.fits p)) in record {
+      labels = omega (arith, labels, c.signals.ensures);
+      some = omega (arith, states, f.some_state);
+      few = omega (arith, states, f.few_states);
+      narrow = omega (arith, c.signals.ensures, f.few_signals);
+      short = λ p. omega (arith, ap length (row p), f.few_steps p);
+      labelled = λ p k l. omega (arith, (fits p k l).0, c.signals.ensures);
+      aimed = λ p k l. omega (arith, (fits p k l).1, states);
+    }
 
 pub returns : goal.returns
 returns g c =

@@ -1,10 +1,8 @@
 -- Each step there has the one origin.
-use Rattle.std.proofs.Common.{◌≡◌, ℕ, List, length, sym, ap, ◌∙◌, arith}
-use Rattle.std.specs.List.{slice_get}
+use Rattle.std.proofs.Common.{List, sym, ap, ◌∙◌, arith}
 use Rattle.std.specs.Option.{option_map}
 use Rattle.std.proofs.iter.runs.Lists.{nth_read, slice_get-map}
 use Rattle.lts.specs.declared.steps.Step.{Step}
-use Rattle.lts.specs.declared.steps.Origin.{Origin}
 use Rattle.lts.specs.declared.steps.Side.TheVariants.{Left}
 use Rattle.lts.specs.Origins.{origin}
 use Rattle.lts.specs.Systems.{step}

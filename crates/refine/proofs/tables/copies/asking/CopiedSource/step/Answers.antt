@@ -1,5 +1,5 @@
 -- The step at a place of the state's row.
-use Rattle.std.proofs.Common.{◌≡◌, List, length, sym, ap, ◌∙◌, arith}
+use Rattle.std.proofs.Common.{List, sym, ap, ◌∙◌}
 use Rattle.std.specs.List.{slice_get}
 use Rattle.std.proofs.iter.runs.Lists.{nth_read}
 use Rattle.lts.specs.declared.steps.Step.{Step}
