@@ -1,5 +1,5 @@
 -- What the fullest source lists.
-use Rattle.std.specs.Prelude.{ℕ, ◌+◌, ◌/◌, ◌%◌, cond, List, [], map, ◌==◌, nat_lt}
+use Rattle.std.specs.Prelude.{ℕ, ◌+◌, ◌/◌, ◌%◌, cond, List, map, ◌==◌, nat_lt}
 use Rattle.std.specs.List.{range_with_len}
 use Rattle.lts.specs.declared.steps.Step.{Step}
 use Rattle.lts.specs.declared.steps.Origin.{Origin}
