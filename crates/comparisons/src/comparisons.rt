@@ -2,7 +2,7 @@
 use lts::environments::Surrounded;
 use lts::systems::Bare;
 use refine::comparers::Comparer;
-use refine::verdicts::Verdict;
+use refine::verdicts::{CensusRefusal, Verdict};
 use sheets::joins::Join;
 use sheets::refusals::Refusal;
 use sheets::store::Sheet;
@@ -244,8 +244,8 @@ fn classes(rt: HostRuntime) -> Result<(), Fail> {
     assert_eq!(rt; exact, [0, 1, 2, 0, 1]);
     let mut short = [9; 4];
     let refused = comparer.census(&sheet, &mut short);
-    assert_eq!(rt; refused, Err(Refusal::BufferTooShort));
-    assert_eq!(rt; Refusal::BufferTooShort.number(), 7);
+    assert_eq!(rt; refused, Err(CensusRefusal::BufferTooShort));
+    assert_eq!(rt; CensusRefusal::BufferTooShort.number(), 7);
     assert_eq!(rt; short, [9; 4]);
     Ok(())
 }

@@ -2,8 +2,8 @@
 use Rattle.std.specs.Prelude.{◌≡◌, ℕ, ◌<◌, ◌≤◌, ◌↔◌, List, length, Ok, Err, Result, slice_index}
 use Rattle.lts.specs.Processes.{Process}
 use Rattle.lts.specs.Reactive.{ReactivelyBisimilar}
-use Rattle.sheets.specs.declared.refusals.Refusal.{Refusal}
-use Rattle.sheets.specs.declared.refusals.Refusal.TheVariants.{BufferTooShort}
+use Rattle.refine.specs.declared.verdicts.CensusRefusal.{CensusRefusal}
+use Rattle.refine.specs.declared.verdicts.CensusRefusal.TheVariants.{BufferTooShort}
 
 -- numbers given from 0 as they are first met: each number below that of p stands at an earlier place
 abbrev pub AsMet : ℕ → List ℕ → Type 0
@@ -28,6 +28,6 @@ pub record Census (M : Process) (before after : List ℕ) (count : ℕ) : Type 0
   pub beyond : (k : ℕ) → M.states ≤ k → slice_index after k ≡ slice_index before k
 
 -- a list that is shorter than the states is refused and stays as it was
-abbrev pub Censused : Process → List ℕ → List ℕ → Result ℕ Refusal → Type 0
+abbrev pub Censused : Process → List ℕ → List ℕ → Result ℕ CensusRefusal → Type 0
 Censused M before after (Err r) = (r ≡ BufferTooShort) × (length before < M.states) × (after ≡ before)
 Censused M before after (Ok count) = (M.states ≤ length before) × Census M before after count

@@ -11,7 +11,6 @@ pub enum Refusal {
     StepPresent,
     SheetFull,
     StepAbsent,
-    BufferTooShort,
 }
 
 impl Refusal {
@@ -26,7 +25,6 @@ impl Refusal {
             Refusal::StepPresent => 4,
             Refusal::SheetFull => 5,
             Refusal::StepAbsent => 6,
-            Refusal::BufferTooShort => 7,
         }
     }
 }

@@ -9,7 +9,7 @@ ghost use Rattle.refine.specs.Censuses.{AsMet, Counted, Fronted, Censused};
 use super::{Comparer, MOST_LEAVING, MOST_STATES};
 use crate::tables::copies::Copied;
 use crate::tables::filling::tabulate;
-use crate::verdicts::Verdict;
+use crate::verdicts::{CensusRefusal, Verdict};
 use crate::workspaces::Workspace;
 use lts::environments::Surrounded;
 use lts::sources::Source;
@@ -75,12 +75,16 @@ impl Comparer {
     }
 
     // Writes the class of each state under judge to the front of the list, and answers how many classes there are.
-    pub fn census<S: Source>(&mut self, source: &S, classes: &mut [usize]) -> Result<usize, Refusal>
+    pub fn census<S: Source>(
+        &mut self,
+        source: &S,
+        classes: &mut [usize],
+    ) -> Result<usize, CensusRefusal>
         ensures { Censused (S.Source.meaning source.now) classes.old classes.new result }
     {
         let states = source.states();
         if classes.len() < states {
-            return Err(Refusal::BufferTooShort);
+            return Err(CensusRefusal::BufferTooShort);
         }
         // no round separates a state from itself, so the rounds go on until one is stable
         let _ = self.surround(source, 0, 0);
