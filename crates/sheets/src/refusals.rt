@@ -1,4 +1,4 @@
-// The numbered refusals of the whole project.
+// The numbered refusals of the whole project, but for that of a census.
 ghost use Rattle.std.specs.Prelude.{◌≡◌};
 ghost use Rattle.sheets.specs.Refusals.{refusal_number};
 
