@@ -15,7 +15,7 @@ NAME = r"[^\s(){}\[\];,.:\"]+"
 HEAD = re.compile(r"\s*(?:(?:abbrev|unfoldable|pub)\s+)*(?:(?:record|data)\s+(" + NAME + r").*|(" + NAME + r")\s+:\s+(.*))")
 ALIAS = re.compile(r" as (" + NAME + r")")
 MADE = re.compile(r"(invariant|decreases|loop|returns|overflow|bounds|offset)[-_]")
-# what port.py makes of three imports whose names once ended in -of
+# what port.py makes of two imports whose names once ended in -of
 ONCE = {"number_of_lem": "number_of", "code_of_lem": "code_of"}
 # words of the library that an import had put in another's place
 SHADOWS = {"AllByRecursion": "All"}
