@@ -1,6 +1,7 @@
 -- The lemmas, and the theorems in Main.
 pub mod Lists
 pub mod Rounds
+pub mod Sums
 pub mod Classes
 pub mod Stable
 pub mod Ranks
@@ -15,5 +16,6 @@ pub mod Nth
 pub mod Filled
 pub mod Moved
 pub mod Main
-pub mod Kept
 pub mod Listed
+pub mod Rest
+pub mod AllowedLabels

@@ -4,7 +4,7 @@ use Rattle.std.specs.List.{AllByRecursion, range_with_len}
 use Rattle.std.proofs.ByRecursion.{All-get_or}
 use Rattle.std.proofs.lemmas.Bool.{and_parts, and_from, or_cases, or_left, or_right, false≢true, cases_eq}
 use Rattle.lts.specs.Systems.{Listing, Leads, InRange, step}
-use Rattle.lts.specs.Lists.{any, all}
+use Rattle.std.specs.List.{list_any as any, list_all as all}
 
 module _ {X : Type 0} where
   abbrev pub In : X → List X → Type 0

@@ -5,7 +5,7 @@ use Rattle.lts.specs.declared.steps.Step.{Step}
 use Rattle.lts.specs.declared.steps.Side.{Side}
 use Rattle.lts.specs.declared.steps.Side.TheVariants.{Left, Right}
 use Rattle.lts.specs.Systems.{System, Leads, label_at, target_at, step}
-use Rattle.lts.specs.Lists.{any}
+use Rattle.std.specs.List.{list_any as any}
 use Rattle.lts.specs.Rounds.{Met, Same, same, FirstApart}
 use Rattle.lts.specs.Attacks.{own, across, Presses, FirstPress}
 use Rattle.lts.proofs.Lists.{In, any_true, any_from, step_in, in_step}

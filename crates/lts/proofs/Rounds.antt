@@ -5,7 +5,7 @@ use Rattle.std.proofs.lemmas.Bool.{and_parts, and_from, eqb-true, eq-eqb, ltb-tr
 use Rattle.std.proofs.lemmas.Bool.Decides.{Decides-and}
 use Rattle.lts.specs.declared.steps.Step.{Step}
 use Rattle.lts.specs.Systems.{Listing, System, Leads, SystemLimits, step}
-use Rattle.lts.specs.Lists.{any}
+use Rattle.std.specs.List.{list_any as any}
 use Rattle.lts.specs.Rounds.{met, Met, Same, same, Stable, FirstApart}
 use Rattle.lts.specs.Bisimulations.{Bisimulation, Holds, classmates}
 use Rattle.lts.proofs.Lists.{In, any_true, any_from, all_true, all_from, step_in, in_step, led_fits}

@@ -1,18 +1,16 @@
 -- Rounds depend only on which steps there are, not on their order or repetition; and so do the six rules.
-use Rattle.std.proofs.Common.{◌≡◌, ℕ, zero, suc, ◌<◌, Bool, true, false, not, ◌↔◌, sym, refl, ap, subst}
+use Rattle.std.proofs.Common.{◌≡◌, ℕ, zero, suc, ◌<◌, Bool, not, sym, ap, subst}
 use mathlib.Core.Path.{fun_ext}
+use Rattle.std.specs.Cmp.{both_ways}
 use Rattle.lts.specs.declared.environments.Position.{Position}
-use Rattle.lts.specs.Systems.{Listing, System, Leads}
+use Rattle.lts.specs.Systems.{Listing, System, Leads, SameSteps}
 use Rattle.lts.specs.Rounds.{Met, Same, same, Stable, FirstApart}
 use Rattle.lts.specs.Classes.{some_below, count_below, seek, leader, least, rank}
 use Rattle.lts.specs.Processes.{Process, ProcessLimits, inner, time_out, Idle}
 use Rattle.lts.specs.Environments.{Move, inner_plain, settles, signals, inner_under, changes, times_out, surrounded}
+use Rattle.lts.specs.Theorems.{StepsDecide}
 use Rattle.lts.proofs.Rounds.{decides_same}
 use Rattle.lts.proofs.SixRules.{six_rules}
-
--- two listings with the same steps
-abbrev pub SameSteps : Listing → Listing → Type 0
-SameSteps f g = (p a p' : ℕ) → Leads f p a p' ↔ Leads g p a p'
 
 pub same_steps_sym : (f g : Listing) → SameSteps f g → SameSteps g f
 same_steps_sym f g h p a p' = ((h p a p').1, (h p a p').0)
@@ -34,18 +32,12 @@ same_rounds S T h (suc n) p q s =
 same_rounds_back : (S T : System) → SameSteps S.from T.from → (n p q : ℕ) → Same T n p q → Same S n p q
 same_rounds_back S T h = same_rounds T S (same_steps_sym S.from T.from h)
 
--- two tests that pass together are one
-one_test : (b c : Bool) → (b ≡ true → c ≡ true) → (c ≡ true → b ≡ true) → b ≡ c
-one_test true c f g = sym (f refl)
-one_test false true f g = g refl
-one_test false false f g = refl
-
 pub same_tests : (S T : System) → SameSteps S.from T.from → (n : ℕ) → same S n ≡ same T n
 same_tests S T h n =
     fun_ext (λ p. fun_ext (λ q.
     let s = decides_same S n p q in
     let t = decides_same T n p q in
-    one_test (same S n p q) (same T n p q)
+    both_ways (same S n p q) (same T n p q)
     (λ e. t.1 (same_rounds S T h n p q (s.0 e)))
     (λ e. s.1 (same_rounds_back S T h n p q (t.0 e)))))
 
@@ -103,3 +95,12 @@ surrounded_steps M N e d h v w =
     let w' : ProcessLimits (listed k n g) = subst ProcessLimits (sym at) w in
     subst (λ (K : Process). SameSteps (surrounded M).from (surrounded K).from) at
     (λ u a x. (step_too k n f g h v w' u a x, step_too k n g f (same_steps_sym f g h) w' v u a x))
+
+pub steps_decide : StepsDecide
+steps_decide = record {
+  rounds = same_rounds;
+  ranks = same_ranks;
+  stable = same_stable;
+  first_apart = same_first_apart;
+  surroundings = surrounded_steps;
+}

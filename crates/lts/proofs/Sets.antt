@@ -1,6 +1,7 @@
 -- The numbers of the sets of signals that environments allow.
-use Rattle.std.proofs.Common.{◌≡◌, ℕ, zero, suc, ◌+◌, ◌-◌, ◌*◌, ◌/◌, ◌%◌, ◌^◌, ◌<◌, Bool, true, false, cond, eqb, ltb, sym, refl, ap, ◌∙◌, subst, inl, inr, mod-lt, mod-eq_of_lt, pow-suc, arith, pow_pos, pow-add}
+use Rattle.std.proofs.Common.{◌≡◌, ℕ, zero, suc, ◌+◌, ◌-◌, ◌*◌, ◌/◌, ◌%◌, ◌^◌, ◌<◌, ◌≤◌, pow_mono, Bool, true, false, cond, eqb, ltb, sym, refl, ap, ◌∙◌, subst, inl, inr, mod-lt, mod-eq_of_lt, pow-suc, arith, pow_pos, pow-add}
 use native.Mathlib.Nat.{add-mul-div_right, add-mul-mod_self_right}
+use Rattle.std.proofs.Math.Nat.{div-eq_of_lt}
 use lib.Arith.{mod-mul, digits_div}
 use Rattle.std.proofs.lemmas.Bool.{cases_eq, eq-eqb, ne_eqb, and_parts, and_from, ltb-true, lt-ltb}
 use Rattle.lts.specs.Processes.{has, numbered, signal, allowed}
@@ -81,3 +82,10 @@ allowed_signal X a h =
     let k = and_parts (ltb 1 a) (has X (a - 2)) h in
     let l : 1 < a = ltb-true 1 a k.0 in
     (a - 2, omega arith, k.1)
+
+-- a number of 64 bits has no later signal
+pub has_late : (X i : ℕ) → X < 2 ^ 64 → 64 ≤ i → has X i ≡ false
+unfolding has
+has_late X i h l =
+    let none : X / 2 ^ i ≡ 0 = div-eq_of_lt (omega (arith, pow_mono {j = i} l)) in
+    rw none refl

@@ -5,6 +5,7 @@ pub mod Rounds
 pub mod Bisimulations
 pub mod Classes
 pub mod Processes
+pub mod Labels
 pub mod Origins
 pub mod Environments
 pub mod Groups

@@ -1,9 +1,8 @@
 -- What a source means: a process whose steps are inner steps, time-outs and signals; and when it is idle in an environment.
 use Rattle.std.specs.Prelude.{◌≡◌, ℕ, zero, suc, ◌+◌, ◌-◌, ◌/◌, ◌%◌, ◌^◌, ◌≤◌, Bool, true, cond, not, ◌&&◌, ◌||◌, [], length, Some, None, Option, ◌==◌, nat_lt}
-use Rattle.std.specs.List.{AllByRecursion}
+use Rattle.std.specs.List.{AllByRecursion, list_any}
 use Rattle.lts.specs.declared.steps.Step.{Step}
 use Rattle.lts.specs.Systems.{Listing, Leads, InRange}
-use Rattle.lts.specs.Lists.{any}
 
 pub record Process : Type 0 where
   pub states : ℕ
@@ -60,4 +59,4 @@ abbrev pub busy_step : ℕ → Step → Bool
 busy_step X s = busy X s.label
 
 unfoldable pub idle : Process → ℕ → ℕ → Bool
-idle M X p = not (any (busy_step X) (M.from p))
+idle M X p = not (list_any (busy_step X) (M.from p))

@@ -1,5 +1,5 @@
 -- Labelled transition systems: states and labels are numbers, and the steps that leave a state are listed in order.
-use Rattle.std.specs.Prelude.{◌≡◌, ℕ, ◌+◌, ◌<◌, ◌≤◌, List, [], length, slice_index_or}
+use Rattle.std.specs.Prelude.{◌≡◌, ℕ, ◌+◌, ◌-◌, ◌^◌, ◌<◌, ◌≤◌, ◌↔◌, List, [], length, min, slice_index_or}
 use Rattle.std.specs.List.{AllByRecursion}
 use Rattle.lts.specs.declared.steps.Step.{Step}
 
@@ -9,6 +9,10 @@ step a p' = record { label = a; target = p' }
 -- a step whose target is numbered behind n other states
 abbrev pub moved : ℕ → Step → Step
 moved n s = step s.label (n + s.target)
+
+-- the same where targets have a bound: a number that would be past the largest of 64 bits is that one
+abbrev pub moved_within : ℕ → Step → Step
+moved_within n s = step s.label (min (n + s.target) (2 ^ 64 - 1))
 
 -- the steps that leave each state, in order
 abbrev pub Listing : Type 0
@@ -24,6 +28,10 @@ pub record Leads (from : Listing) (p a p' : ℕ) : Type 0 where
   pub place : ℕ
   pub inside : place < length (from p)
   pub is : slice_index_or (from p) place (step 0 0) ≡ step a p'
+
+-- two listings have the same steps, in whatever order and however often they list one
+abbrev pub SameSteps : Listing → Listing → Type 0
+SameSteps f g = (p a p' : ℕ) → Leads f p a p' ↔ Leads g p a p'
 
 -- the label and the target of the step at a place
 abbrev pub label_at : Listing → ℕ → ℕ → ℕ

@@ -3,7 +3,7 @@ use Rattle.std.specs.Prelude.{◌≡◌, ℕ, suc, ◌^◌, ◌<◌, ◌≤◌, 
 use Rattle.lts.specs.declared.steps.Side.{Side}
 use Rattle.lts.specs.declared.environments.Position.{Position}
 use Rattle.lts.specs.declared.environments.Position.TheVariants.{Plain}
-use Rattle.lts.specs.Systems.{System, Leads, SystemLimits}
+use Rattle.lts.specs.Systems.{System, Leads, SystemLimits, SameSteps}
 use Rattle.lts.specs.Rounds.{Same, same, Stable, FirstApart}
 use Rattle.lts.specs.Bisimulations.{Bisimulation, Holds, Bisimilar, classmates}
 use Rattle.lts.specs.Classes.{classes, rank}
@@ -86,6 +86,15 @@ pub record Reduced (M : Process) : Type 0 where
 
 abbrev pub EveryProcessReduced : Type 0
 EveryProcessReduced = (M : Process) → ProcessLimits M → Reduced M
+
+-- Rounds, their classes and the first that separates depend only on which steps there are, and so do the steps of a surrounded system: not on their order, nor on how often one is listed
+pub record StepsDecide : Type 0 where
+  pub rounds : (S T : System) → SameSteps S.from T.from → (n p q : ℕ) → Same S n p q → Same T n p q
+  pub ranks : (S T : System) → SameSteps S.from T.from → (n p : ℕ) → rank S n p ≡ rank T n p
+  pub stable : (S T : System) → SameSteps S.from T.from → S.states ≡ T.states → (n : ℕ) → Stable S n → Stable T n
+  pub first_apart : (S T : System) → SameSteps S.from T.from → (r p q : ℕ) → FirstApart S r p q → FirstApart T r p q
+  pub surroundings : (M N : Process) → M.states ≡ N.states → M.signals ≡ N.signals → SameSteps M.from N.from →
+      ProcessLimits M → ProcessLimits N → SameSteps (surrounded M).from (surrounded N).from
 
 -- Of a pair that round n + 1 is the first to separate, one step is the first that presses at round n
 pub record OneFirstPress : Type 0 where

@@ -2,6 +2,8 @@
 #![tactic(auto)]
 
 pub mod environments;
+pub mod labels;
+pub mod leaving;
 pub mod relations;
 pub mod sources;
 pub mod steps;

@@ -17,10 +17,10 @@ pub trait ReactiveRelation {
 
 // What any strong bisimulation relates is together at every round, and bisimilar by a Boolean relation.
 pub fn relations_bisimilar<R: Relation>(relation: &R)
-    ensures { RelationBisimilar (R.Relation.relates relation.now) }
+    ensures { RelationBisimilar (R.relates relation.now) }
 {}
 
 // What any reactive bisimulation holds plainly is reactively bisimilar by Boolean relations.
 pub fn relations_reactive<R: ReactiveRelation>(relation: &R)
-    ensures { RelationReactive (R.ReactiveRelation.plainly relation.now) (R.ReactiveRelation.under relation.now) }
+    ensures { RelationReactive (R.plainly relation.now) (R.under relation.now) }
 {}

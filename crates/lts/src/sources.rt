@@ -1,12 +1,12 @@
 // A source of steps: what is compared.
-ghost use Rattle.std.specs.Prelude.{◌≡◌, ℕ, List, length, vec_capacity};
+ghost use Rattle.std.specs.Prelude.{◌≡◌, ℕ, List, length};
 ghost use Rattle.std.specs.List.{slice_get};
-ghost use Rattle.lts.specs.Lists.{filled};
+ghost use Rattle.lts.specs.Lists.{IsFilled};
 ghost use Rattle.lts.specs.declared.steps.Origin.{Origin};
 ghost use Rattle.lts.specs.Processes.{Process, ProcessLimits};
 ghost use Rattle.lts.specs.Origins.{OriginLimits};
 
-use crate::steps::{Origin, Step, put};
+use crate::steps::{Origin, Step, put_places};
 
 // A process, by the questions that can be asked of it. What it stands for is its meaning, which fixes every answer: an absent state has no
 // steps, and an absent place answers `None`. Asking alters nothing.
@@ -38,14 +38,13 @@ pub trait Source {
     // Puts the steps that leave the state behind those in the list, in order, as far as its reserved room goes; it never allocates. It asks
     // nothing new: a source that can walk its steps faster than place by place gives its own body.
     fn list(&self, state: usize, into: &mut Vec<Step>)
-        ensures items { into.new.items ≡ filled (vec_capacity into.old) into.old.items ((meaning self.now).from state) }
-        ensures room { vec_capacity into.new ≡ vec_capacity into.old }
+        ensures { IsFilled into.old into.new ((meaning self.now).from state) }
     {
-        for place in 0..self.step_count(state) {
-            if let Some(step) = self.step(state, place) {
-                put(into, step);
-            }
-        }
+        put_places(
+            self.step_count(state),
+            |place| self.step(state, place),
+            into,
+        );
     }
 
     // The origin of that step.

@@ -1,15 +1,16 @@
 // Plain labelled transition systems, and a source as one.
-ghost use Rattle.std.specs.Prelude.{◌≡◌, length, vec_capacity};
+ghost use Rattle.std.specs.Prelude.{◌≡◌, length};
 ghost use Rattle.std.specs.List.{slice_get};
-ghost use Rattle.lts.specs.Lists.{filled};
+ghost use Rattle.lts.specs.Lists.{IsFilled};
 ghost use Rattle.lts.specs.Systems.{System, SystemLimits};
 ghost use Rattle.lts.specs.Environments.{bare};
 ghost use Rattle.lts.specs.Limits.{bare_limits};
 
 use crate::sources::Source;
-use crate::steps::{Step, put};
+use crate::steps::{Step, put_places};
 
-// A labelled transition system, by the questions that can be asked of it: no time-outs and no origins, labels are only compared.
+// A labelled transition system, by the questions that can be asked of it: no time-outs and no origins, labels are only compared. It shares
+// no trait of steps with `Source`: each promise would go through a law that ties such a trait's list to the meaning and to the system.
 pub trait Lts {
     ghost system: { Self → System };
 
@@ -32,14 +33,13 @@ pub trait Lts {
 
     // Puts the steps that leave the state behind those in the list, in order, as far as its reserved room goes; it never allocates.
     fn list(&self, state: usize, into: &mut Vec<Step>)
-        ensures items { into.new.items ≡ filled (vec_capacity into.old) into.old.items ((system self.now).from state) }
-        ensures room { vec_capacity into.new ≡ vec_capacity into.old }
+        ensures { IsFilled into.old into.new ((system self.now).from state) }
     {
-        for place in 0..self.step_count(state) {
-            if let Some(step) = self.step(state, place) {
-                put(into, step);
-            }
-        }
+        put_places(
+            self.step_count(state),
+            |place| self.step(state, place),
+            into,
+        );
     }
 }
 
@@ -50,9 +50,9 @@ pub struct Bare<'a, S> {
 }
 
 impl<S: Source> Lts for Bare<'_, S> {
-    ghost system = { λ b. bare (S.Source.meaning b.source.now) };
+    ghost system = { λ b. bare (S.meaning b.source.now) };
 
-    ghost limits = { λ b. bare_limits (S.Source.meaning b.source.now) (S.Source.limits b.source.now) };
+    ghost limits = { λ b. bare_limits (S.meaning b.source.now) (S.limits b.source.now) };
 
     fn states(&self) -> usize {
         self.source.states()
