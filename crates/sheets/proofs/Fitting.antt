@@ -1,9 +1,8 @@
 -- Lists of transitions that all fit a sheet's sizes.
-use Rattle.std.proofs.Common.{◌≡◌, ℕ, ◌+◌, ◌≤◌, true, false, ◌&&◌, ltb, List, [], ◌∷◌, ◌++◌, refl, subst, ⊎_elim, arith}
-use Rattle.std.specs.List.{AllByRecursion}
-use Rattle.std.proofs.lemmas.Bool.{both_ways, or_cases, and_parts, and_from, cond_both, ltb-true}
+use Rattle.std.proofs.Common.{◌≡◌, ℕ, true, false, List, [], ◌∷◌, ◌++◌, refl, subst, ⊎_elim}
+use Rattle.std.proofs.lemmas.Bool.{both_ways, or_cases, and_parts, and_from, cond_both}
 use Rattle.sheets.specs.declared.transitions.Transition.{Transition}
-use Rattle.sheets.specs.Transitions.{same_transition, has_transition, fits, all_fit, Narrow, without}
+use Rattle.sheets.specs.Transitions.{same_transition, has_transition, fits, all_fit, without}
 use Rattle.sheets.proofs.Places.{same_is}
 
 pub fit_push : (n k : ℕ) (xs : List Transition) (x : Transition) → all_fit n k xs ≡ true → fits n k x ≡ true →
@@ -19,15 +18,6 @@ fit_without n k (z ∷ zs) x h =
     let both = and_parts (fits n k z) (all_fit n k zs) h in
     cond_both (same_transition z x) zs (z ∷ without zs x) (λ l. all_fit n k l ≡ true) (λ _. both.1)
     (λ _. and_from (fits n k z) (all_fit n k (without zs x)) both.0 (fit_without n k zs x both.1))
-
-pub all_narrow : (n k : ℕ) (xs : List Transition) → n ≤ 48 → k ≤ 5 → all_fit n k xs ≡ true → AllByRecursion Narrow xs
-all_narrow n k [] l m h = tt
-all_narrow n k (x ∷ xs) l m h =
-    let both = and_parts (fits n k x) (all_fit n k xs) h in
-    let from = and_parts (ltb x.from n) (ltb x.label (k + 2) && ltb x.to n) both.0 in
-    let label = and_parts (ltb x.label (k + 2)) (ltb x.to n) from.1 in
-    let here : Narrow x = (omega (arith, ltb-true x.label (k + 2) label.0), omega (arith, ltb-true x.to n label.1)) in
-    (here, all_narrow n k xs l m both.1)
 
 pub fits_if_there : (n k : ℕ) (xs : List Transition) (x : Transition) → all_fit n k xs ≡ true → has_transition xs x ≡ true →
     fits n k x ≡ true

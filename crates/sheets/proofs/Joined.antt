@@ -1,22 +1,22 @@
 -- A join has exactly the steps of both sheets.
-use Rattle.std.proofs.Common.{◌≡◌, ℕ, ◌+◌, ◌-◌, ◌<◌, ◌≤◌, true, false, ltb, ◌⊎◌, List, [], ◌∷◌, map, sym, refl, ap, ◌∙◌, subst, inl, inr, ⊎_elim, arith}
+use Rattle.std.proofs.Common.{◌≡◌, ℕ, ◌+◌, ◌-◌, ◌<◌, ◌≤◌, true, false, ltb, ◌⊎◌, List, [], ◌∷◌, map, filter, sym, refl, ap, ◌∙◌, subst, inl, inr, ⊎_elim, arith}
 use Rattle.std.proofs.lemmas.Bool.{both_ways, or_cases, or_left, or_right, and_parts, ltb-true, lt-ltb, eqb-true, eq-eqb, cases_lt, cond-true}
 use Rattle.lts.specs.declared.steps.Step.{Step}
-use Rattle.lts.specs.Systems.{Leads, step}
+use Rattle.lts.specs.Systems.{Leads, step, moved}
 use Rattle.lts.specs.Processes.{Process}
 use Rattle.lts.proofs.Lists.{In, step_in, in_step, in_map, map_in, in_kept, kept_in}
 use Rattle.sheets.specs.declared.transitions.Transition.{Transition}
-use Rattle.sheets.specs.declared.transitions.Listed.{Listed}
 use Rattle.sheets.specs.Transitions.{transition, same_transition, has_transition, all_fit}
 use Rattle.sheets.specs.Contents.{Contents}
-use Rattle.sheets.specs.Listings.{listed, listed_from, leaves, leaving, step_of, process_of}
-use Rattle.sheets.specs.Joins.{moved, joined_process}
+use Rattle.sheets.specs.Listings.{leaving, step_of, process_of}
+use Rattle.sheets.specs.Joins.{joined_process}
 use Rattle.sheets.specs.JoinLimits.{joined_right}
 use Rattle.sheets.specs.JoinLaw.{MovedStep, JoinLaw}
 use Rattle.sheets.proofs.Places.{same_refl, same_is}
+use Rattle.sheets.proofs.Leaving.{is_from, to_step, steps_leaving}
 use Rattle.sheets.proofs.Fitting.{fits_if_there}
 
--- ---- membership, by the test and among the listed
+-- ---- membership, by the test
 
 has_in : (xs : List Transition) (x : Transition) → has_transition xs x ≡ true → In x xs
 has_in [] x t = both_ways false refl t
@@ -28,33 +28,22 @@ in_has [] x i = absurd i
 in_has (y ∷ ys) x (inl e) = or_left (same_transition y x) (has_transition ys x) (ap (λ z. same_transition z x) e ∙ same_refl x)
 in_has (y ∷ ys) x (inr i) = or_right (same_transition y x) (has_transition ys x) (in_has ys x i)
 
-listed_in : (j : ℕ) (xs : List Transition) (l : Listed) → In l (listed_from j xs) → In l.transition xs
-listed_in j [] l i = i
-listed_in j (x ∷ xs) l (inl e) = inl (ap (λ (y : Listed). y.transition) e)
-listed_in j (x ∷ xs) l (inr i) = inr (listed_in (j + 1) xs l i)
-
-in_listed : (j : ℕ) (xs : List Transition) (x : Transition) → In x xs → (k : ℕ) × In (listed k x) (listed_from j xs)
-in_listed j [] x i = absurd i
-in_listed j (y ∷ ys) x (inl e) = (j, inl (ap (listed j) e))
-in_listed j (y ∷ ys) x (inr i) = let r = in_listed (j + 1) ys x i in (r.0, inr r.1)
-
 -- ---- the steps that a sheet lists are those on it
 
 listed_has : (xs : List Transition) (p a q : ℕ) → In (step a q) (map step_of (leaving xs p)) → has_transition xs (transition p a q) ≡ true
 listed_has xs p a q i =
-    let m = map_in step_of (step a q) (leaving xs p) i in
-    let l : Listed = m.0 in
-    let k = kept_in (leaves p) l (listed_from 0 xs) m.1 in
-    let from = eqb-true l.transition.from p k.1 in
-    let same : l.transition ≡ transition p a q =
-    ap (λ (o : ℕ). transition o l.transition.label l.transition.to) from ∙ ap (λ (s : Step). transition p s.label s.target) m.2 in
-    subst (λ (x : Transition). has_transition xs x ≡ true) same (in_has xs l.transition (listed_in 0 xs l k.0))
+    let m = map_in to_step (step a q) (filter (is_from p) xs) (subst (In (step a q)) (sym (steps_leaving 0 p xs)) i) in
+    let x : Transition = m.0 in
+    let k = kept_in (is_from p) x xs m.1 in
+    let same : x ≡ transition p a q =
+    ap (λ (o : ℕ). transition o x.label x.to) (eqb-true x.from p k.1) ∙ ap (λ (s : Step). transition p s.label s.target) m.2 in
+    subst (λ (y : Transition). has_transition xs y ≡ true) same (in_has xs x k.0)
 
 has_listed : (xs : List Transition) (p a q : ℕ) → has_transition xs (transition p a q) ≡ true → In (step a q) (map step_of (leaving xs p))
 has_listed xs p a q t =
-    let k = in_listed 0 xs (transition p a q) (has_in xs (transition p a q) t) in
-    let l : Listed = listed k.0 (transition p a q) in
-    in_map step_of l (leaving xs p) (in_kept (leaves p) l (listed_from 0 xs) k.1 (eq-eqb p p refl))
+    let x = transition p a q in
+    subst (In (step a q)) (steps_leaving 0 p xs)
+    (in_map to_step x (filter (is_from p) xs) (in_kept (is_from p) x xs (has_in xs x t) (eq-eqb p p refl)))
 
 -- ---- both sides
 

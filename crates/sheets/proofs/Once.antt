@@ -5,6 +5,8 @@ use Rattle.sheets.specs.declared.transitions.Transition.{Transition}
 use Rattle.sheets.specs.Transitions.{same_transition, has_transition, all_once, without}
 use Rattle.sheets.proofs.Places.{same_sym, same_is, has_push}
 use Rattle.sheets.proofs.Without.{has_without}
+use Rattle.std.proofs.lemmas.Bool.Decides.{nat_tests}
+use Rattle.sheets.proofs.Fitting.{fit_push, fit_without}
 
 pub once_push : (xs : List Transition) (x : Transition) → all_once xs ≡ true → has_transition xs x ≡ false →
     all_once (xs ++ x ∷ []) ≡ true
@@ -33,3 +35,8 @@ gone (z ∷ zs) x h =
     cond_both (same_transition z x) zs (z ∷ without zs x) (λ l. has_transition l x ≡ false)
     (λ e. ap (has_transition zs) (sym (same_is z x e)) ∙ not-true (has_transition zs z) both.0)
     (λ e. or_from (same_transition z x) (has_transition (without zs x) x) e (gone zs x both.1))
+
+-- what keeps a sheet's facts when a step is noted, and when one is struck
+pub ruleset with_one_more = (fit_push, once_push, nat_tests)
+
+pub ruleset with_one_fewer = (fit_without, once_without)

@@ -1,19 +1,22 @@
--- What a join answers at a state of its right side, with n for the number of the left states.
-use Rattle.std.proofs.Common.{◌≡◌, ℕ, ◌-◌, ◌≤◌, List, Option, sym, ap, ◌∙◌}
-use Rattle.std.specs.Option.{option_map}
-use Rattle.std.specs.List.{slice_get}
+-- Steps that are moved behind other states, where none comes near the largest number.
+use Rattle.std.proofs.Common.{◌≡◌, ℕ, ◌+◌, ◌-◌, ◌^◌, ◌≤◌, map, min, ap, ◌∙◌, arith}
+use Rattle.std.proofs.lemmas.List.{map-id}
 use Rattle.lts.specs.declared.steps.Step.{Step}
-use Rattle.lts.specs.declared.steps.Origin.{Origin}
-use Rattle.lts.specs.Processes.{Process}
-use Rattle.sheets.specs.Joins.{moved, joined_process, on_the_right, joined_origins}
-use Rattle.sheets.specs.JoinLimits.{joined_right, joined_right_origins}
-use Rattle.lts.proofs.Nth.{nth_of_map}
+use Rattle.lts.specs.Systems.{step, InRange, moved, moved_within}
+use Rattle.lts.specs.Processes.{Process, ProcessLimits}
+use Rattle.lts.proofs.Moved.{map_where}
 
-pub right_step : (l r : Process) (p n i : ℕ) (o : Option Step) → n ≡ l.states → n ≤ p →
-    o ≡ slice_get (r.from (p - n)) i → option_map (moved n) o ≡ slice_get ((joined_process l r).from p) i
-right_step l r p n i o e h a = nth_of_map (moved n) (r.from (p - n)) i o a ∙ sym (ap (λ xs. slice_get xs i) (joined_right l r p n e h))
+module _ (M : Process) (f : ProcessLimits M) (p : ℕ) where
+  abbrev Own : Step → Type 0
+  Own = InRange (M.signals + 2) M.states
 
-pub right_origin : (m : ℕ) (l r : ℕ → List Origin) (p n i : ℕ) (o : Option Origin) → n ≡ m → n ≤ p →
-    o ≡ slice_get (r (p - n)) i → option_map on_the_right o ≡ slice_get (joined_origins m l r p) i
-right_origin m l r p n i o e h a =
-    nth_of_map on_the_right (r (p - n)) i o a ∙ sym (ap (λ xs. slice_get xs i) (joined_right_origins m l r p n e h))
+  pub unmoved : map (moved 0) (M.from p) ≡ M.from p
+  unmoved =
+      map_where Own (moved 0) (λ s. s) (λ s _. let e : 0 + s.target ≡ s.target = omega arith in ap (step s.label) e) (M.from p) (f.fits p)
+      ∙ map-id (M.from p)
+
+  pub never_far : (n : ℕ) → n ≤ 96 → map (moved_within n) (M.from p) ≡ map (moved n) (M.from p)
+  never_far n few =
+      map_where Own (moved_within n) (moved n)
+      (λ s h. let e : min (n + s.target) (2 ^ 64 - 1) ≡ n + s.target = omega (arith, f.few_states) in ap (step s.label) e)
+      (M.from p) (f.fits p)

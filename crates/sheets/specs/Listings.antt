@@ -1,10 +1,10 @@
 -- The steps of a sheet as a source lists them.
-use Rattle.std.specs.Prelude.{◌≡◌, ℕ, ◌+◌, ◌<◌, Bool, List, [], ◌∷◌, map, Some, filter, ◌==◌}
-use Rattle.std.specs.List.{slice_get}
+use Rattle.std.specs.Prelude.{◌≡◌, ℕ, ◌<◌, Bool, List, map, Some, filter, ◌==◌}
+use Rattle.std.specs.List.{slice_get, enumerate_from}
 use Rattle.lts.specs.declared.steps.Step.{Step}
 use Rattle.lts.specs.declared.steps.Origin.{Origin}
 use Rattle.lts.specs.declared.steps.Side.TheVariants.{Left}
-use Rattle.lts.specs.Systems.{step}
+use Rattle.lts.specs.Systems.{step, moved}
 use Rattle.lts.specs.Origins.{origin}
 use Rattle.lts.specs.Processes.{Process}
 use Rattle.sheets.specs.declared.transitions.Transition.{Transition}
@@ -17,8 +17,7 @@ listed k x = record { place = k; transition = x }
 
 -- each transition with its place, the first at k
 abbrev pub listed_from : ℕ → List Transition → List Listed
-listed_from k [] = []
-listed_from k (x ∷ xs) = listed k x ∷ listed_from (k + 1) xs
+listed_from k xs = map (λ (x : ℕ × Transition). listed x.0 x.1) (enumerate_from k xs)
 
 abbrev pub leaves : ℕ → Listed → Bool
 leaves p l = l.transition.from == p
@@ -38,6 +37,10 @@ process_of c = record { states = c.states; signals = c.signals; from = λ p. map
 
 abbrev pub origins_of : Contents → ℕ → List Origin
 origins_of c p = map origin_of (leaving c.steps p)
+
+-- the steps that leave p, with their targets numbered behind n other states
+abbrev pub all_behind : ℕ → Contents → ℕ → List Step
+all_behind n c p = map (moved n) ((process_of c).from p)
 
 -- The listing in the users' words: what is listed for a state is on the sheet at its origin's place and leaves that state; whatever
 -- leaves it is listed; and the places rise

@@ -1,9 +1,10 @@
 -- A sheet is within the limits of a source: what its implementation of `Source` owes.
 use Rattle.std.specs.Prelude.{◌≡◌, ℕ, ◌+◌, ◌<◌, ◌≤◌, Bool, true, false, ◌&&◌, List, [], ◌∷◌, map, length, filter, nat_lt, refl}
 use Rattle.std.proofs.Common.{arith, ap, ◌∙◌}
-use Rattle.std.specs.List.{AllByRecursion}
+use Rattle.std.specs.List.{AllByRecursion, enumerate_from}
 use Rattle.std.proofs.lemmas.List.{length-map}
 use Rattle.std.proofs.ByRecursion.{All-map, all_kept_by, All-weaker}
+use Rattle.std.proofs.lemmas.List.FromFn.{length-enumerate_from}
 use Rattle.std.proofs.lemmas.List.Sums.{length-filter, count_by-le-length}
 use Rattle.std.proofs.lemmas.Bool.{and_parts, cond-false, ltb-true, ne_eqb}
 use Rattle.lts.specs.declared.steps.Origin.{Origin}
@@ -36,10 +37,6 @@ all_near : (m j : ℕ) (xs : List Transition) → j + length xs ≤ m → AllByR
 all_near m j [] h = tt
 all_near m j (x ∷ xs) h = (omega arith, all_near m (j + 1) xs (omega arith))
 
-length_listed : (j : ℕ) (xs : List Transition) → length (listed_from j xs) ≡ length xs
-length_listed j [] = refl
-length_listed j (x ∷ xs) = omega (arith, length_listed (j + 1) xs)
-
 kept_by_none : {X : Type 0} (test : X → Bool) (xs : List X) → AllByRecursion (λ x. test x ≡ false) xs → filter test xs ≡ []
 kept_by_none test [] h = refl
 kept_by_none test (x ∷ xs) h = cond-false (test x) (x ∷ filter test xs) (filter test xs) h.0 ∙ kept_by_none test xs h.1
@@ -48,7 +45,8 @@ module _ (xs : List Transition) (p : ℕ) where
   few_leaving : length (leaving xs p) ≤ length xs
   few_leaving =
       let all = listed_from 0 xs in
-      omega (arith, length-filter (leaves p) all, count_by-le-length (leaves p) all, length_listed 0 xs)
+      let places = length-map (enumerate_from 0 xs) (λ (x : ℕ × Transition). listed x.0 x.1) in
+      omega (arith, length-filter (leaves p) all, count_by-le-length (leaves p) all, places, length-enumerate_from 0 xs)
 
   near_leaving : length xs ≤ 512 → AllByRecursion (λ (o : Origin). o.place < 512) (map origin_of (leaving xs p))
   near_leaving h =

@@ -1,5 +1,5 @@
 -- Lists of transitions: what a sheet may hold.
-use Rattle.std.specs.Prelude.{◌≡◌, ℕ, ◌+◌, ◌<◌, Bool, true, false, cond, not, ◌&&◌, ◌||◌, List, [], ◌∷◌, length, ◌==◌, nat_lt}
+use Rattle.std.specs.Prelude.{◌≡◌, ℕ, ◌+◌, ◌<◌, Bool, true, false, cond, not, ◌&&◌, ◌||◌, List, [], ◌∷◌, length, Option, MatchOption, ◌==◌, nat_lt}
 use Rattle.std.specs.List.{remove}
 use Rattle.sheets.specs.declared.transitions.Transition.{Transition}
 
@@ -22,10 +22,6 @@ abbrev pub all_fit : ℕ → ℕ → List Transition → Bool
 all_fit n k [] = true
 all_fit n k (x ∷ xs) = fits n k x && all_fit n k xs
 
--- what that leaves of a step's numbers on any sheet
-abbrev pub Narrow : Transition → Type 0
-Narrow x = (x.label < 7) × (x.to < 48)
-
 -- none stands twice
 abbrev pub all_once : List Transition → Bool
 all_once [] = true
@@ -41,3 +37,7 @@ pub record StandsAt (xs : List Transition) (x : Transition) (i : ℕ) : Type 0 w
   pub inside : i < length xs
   pub present : has_transition xs x ≡ true
   pub rest : remove xs i ≡ without xs x
+
+-- where x stands in the list, or that it does not
+abbrev pub IsPlaceOf : List Transition → Transition → Option ℕ → Type 0
+IsPlaceOf xs x place = MatchOption place (has_transition xs x ≡ false) (StandsAt xs x)

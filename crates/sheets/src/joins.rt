@@ -1,8 +1,8 @@
 // Two sheets side by side, as one source.
-ghost use Rattle.std.specs.Prelude.{◌≡◌, ◌+◌, ◌^◌, ◌<◌};
+ghost use Rattle.std.specs.Prelude.{◌≡◌};
 ghost use Rattle.sheets.specs.Listings.{process_of, origins_of};
 ghost use Rattle.sheets.specs.Held.{held};
-ghost use Rattle.sheets.specs.Joins.{moved, joined_process, on_the_right, joined_origins};
+ghost use Rattle.sheets.specs.Joins.{joined_process, joined_origins, IsSided};
 ghost use Rattle.sheets.specs.JoinLaw.{JoinLaw};
 ghost use Rattle.sheets.specs.JoinLimits.{join_limits, join_originated};
 
@@ -24,21 +24,27 @@ impl<'a> Join<'a> {
         ensures sides { (result.left.now ≡ left.now) × (result.right.now ≡ right.now) }
         ensures law { JoinLaw (held left.now) (held right.now) }
     {
-        Join::beside(left, right)
+        Join { left, right }
     }
 
-    // Each sheet on its side.
-    fn beside(left: &'a Sheet, right: &'a Sheet) -> Join<'a>
-        ensures { (result.left.now ≡ left.now) × (result.right.now ≡ right.now) }
+    // The sheet's state that a state of the join is.
+    fn sided(&self, state: usize) -> Sided
+        ensures { IsSided (held self.now.left.now).states state result }
     {
-        Join { left, right }
+        let n = self.left.states();
+        if state < n {
+            Sided::Left(state)
+        } else {
+            Sided::Right(state - n)
+        }
     }
 }
 
 impl Source for Join<'_> {
     ghost meaning = { λ j. joined_process (process_of (held j.left.now)) (process_of (held j.right.now)) };
 
-    ghost origins = { λ j. joined_origins (held j.left.now).states (origins_of (held j.left.now)) (origins_of (held j.right.now)) };
+    ghost origins = { λ j. let l = held j.left.now in
+        joined_origins l.states (origins_of l) (origins_of (held j.right.now)) };
 
     ghost limits = { λ j. join_limits j.left.now j.right.now };
 
@@ -53,58 +59,42 @@ impl Source for Join<'_> {
     }
 
     fn step_count(&self, state: usize) -> usize {
-        let n = self.left.states();
-        if state < n {
-            self.left.step_count(state)
-        } else {
-            self.right.step_count(state - n)
+        match self.sided(state) {
+            Sided::Left(state) => self.left.step_count(state),
+            Sided::Right(state) => self.right.step_count(state),
         }
     }
 
     fn step(&self, state: usize, place: usize) -> Option<Step> {
-        let n = self.left.states();
-        if state < n {
-            return self.left.step(state, place);
+        match self.sided(state) {
+            Sided::Left(state) => self.left.step(state, place),
+            Sided::Right(state) => self.right.step_behind(self.left.states(), state, place),
         }
-        let step = self.right.step(state - n, place)?;
-        Some(moved_by(n, step))
     }
 
     fn list(&self, state: usize, into: &mut Vec<Step>) {
-        let n = self.left.states();
-        if state < n {
-            self.left.list(state, into);
-        } else {
-            self.right.list_behind(n, state - n, into);
+        match self.sided(state) {
+            Sided::Left(state) => self.left.list(state, into),
+            Sided::Right(state) => self.right.list_behind(self.left.states(), state, into),
         }
     }
 
     fn origin(&self, state: usize, place: usize) -> Option<Origin> {
-        let n = self.left.states();
-        if state < n {
-            return self.left.origin(state, place);
+        match self.sided(state) {
+            Sided::Left(state) => self.left.origin(state, place),
+            Sided::Right(state) => {
+                let origin = self.right.origin(state, place)?;
+                Some(Origin {
+                    side: Side::Right,
+                    ..origin
+                })
+            }
         }
-        let origin = self.right.origin(state - n, place)?;
-        Some(on_the_right(origin))
     }
 }
 
-// A step of the right sheet, whose states come after n states of the left one.
-fn moved_by(n: usize, step: Step) -> Step
-    requires { n + step.target < 2 ^ 64 }
-    ensures { result ≡ moved n step }
-{
-    Step {
-        label: step.label,
-        target: n + step.target,
-    }
-}
-
-fn on_the_right(origin: Origin) -> Origin
-    ensures { result ≡ on_the_right origin }
-{
-    Origin {
-        side: Side::Right,
-        place: origin.place,
-    }
+// A state of the left sheet or of the right one, as that sheet numbers it.
+enum Sided {
+    Left(usize),
+    Right(usize),
 }

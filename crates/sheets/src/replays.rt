@@ -15,21 +15,23 @@ pub enum Call {
     Strike(Transition),
 }
 
+impl Call {
+    fn carry_out(self, sheet: &mut Sheet) -> Result<(), Refusal>
+        ensures answer { result ≡ call_answer (held sheet.old) self }
+        ensures after { held sheet.new ≡ after_call (held sheet.old) self }
+    {
+        match self {
+            Call::Note(step) => sheet.note(step),
+            Call::Strike(step) => sheet.strike(step),
+        }
+    }
+}
+
 // A call of a script, and its answer once it was replayed.
 #[derive(Clone, Copy)]
 pub struct Entry {
     pub call: Call,
     pub answer: Option<Result<(), Refusal>>,
-}
-
-fn carry_out(sheet: &mut Sheet, call: Call) -> Result<(), Refusal>
-    ensures answer { result ≡ call_answer (held sheet.old) call }
-    ensures after { held sheet.new ≡ after_call (held sheet.old) call }
-{
-    match call {
-        Call::Note(step) => sheet.note(step),
-        Call::Strike(step) => sheet.strike(step),
-    }
 }
 
 // Makes a new sheet of these sizes, carries out each call of the script in turn, and enters its answer. Sizes out of limits are
@@ -46,9 +48,8 @@ pub fn replay(
     ensures law { OnOk result (TallyLaw states signals (calls_of script.old) (held sheet.new).steps) }
 {
     sheet.new_sheet(states, signals)?;
-    for i in 0..script.len() {
-        let call = script[i].call;
-        script[i].answer = Some(carry_out(sheet, call));
+    for entry in script.iter_mut() {
+        entry.answer = Some(entry.call.carry_out(sheet));
     }
     Ok(())
 }

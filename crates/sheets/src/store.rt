@@ -15,6 +15,8 @@ pub(crate) const MOST_SIGNALS: usize = 5;
 pub(crate) const MOST_STEPS: usize = 512;
 
 // A sequencer sheet. Its memory is reserved when it is made, so that no later call wants any.
+//
+// No `impl Model`: a model's value has no facts, and `limits` owes some for every value of the type. `held` is the view.
 #[derive(Drop)]
 pub struct Sheet {
     states: usize,

@@ -1,6 +1,6 @@
 // Making a sheet, and noting and striking its steps.
-ghost use Rattle.std.specs.Prelude.{◌≡◌, false, IfOk, MatchOption};
-ghost use Rattle.sheets.specs.Transitions.{same_transition, has_transition, StandsAt};
+ghost use Rattle.std.specs.Prelude.{◌≡◌, IfOk};
+ghost use Rattle.sheets.specs.Transitions.{IsPlaceOf};
 ghost use Rattle.sheets.specs.Contents.{blank_contents, new_sheet_answer, after_new_sheet};
 ghost use Rattle.sheets.specs.Contents.{range_answer, note_answer, after_note, strike_answer, after_strike};
 ghost use Rattle.sheets.specs.Held.{held};
@@ -23,7 +23,7 @@ impl Sheet {
         })
     }
 
-    // Makes this the sheet of these sizes with no steps.
+    // Makes this the sheet of these sizes with no steps. The sizes are two numbers: a type of both would hold no fact before they are checked.
     pub fn new_sheet(&mut self, states: usize, signals: usize) -> Result<(), Refusal>
         ensures answer { result ≡ new_sheet_answer states signals }
         ensures after { held self.new ≡ after_new_sheet (held self.old) states signals }
@@ -38,12 +38,13 @@ impl Sheet {
     }
 
     // Adds the step at the end.
+    #[tactic(auto, using(crate::proofs::Once::with_one_more))]
     pub fn note(&mut self, step: Transition) -> Result<(), Refusal>
         ensures answer { result ≡ note_answer (held self.old) step }
         ensures after { held self.new ≡ after_note (held self.old) step }
     {
         self.in_range(step)?;
-        if let Some(_) = place_of(&self.steps, step) {
+        if self.place_of(step).is_some() {
             return Err(Refusal::StepPresent);
         }
         if self.steps.len() >= MOST_STEPS {
@@ -54,18 +55,15 @@ impl Sheet {
     }
 
     // Takes the step out; later ones move up.
+    #[tactic(auto, using(crate::proofs::Once::with_one_fewer))]
     pub fn strike(&mut self, step: Transition) -> Result<(), Refusal>
         ensures answer { result ≡ strike_answer (held self.old) step }
         ensures after { held self.new ≡ after_strike (held self.old) step }
     {
         self.in_range(step)?;
-        match place_of(&self.steps, step) {
-            None => Err(Refusal::StepAbsent),
-            Some(place) => {
-                self.steps.remove(place);
-                Ok(())
-            }
-        }
+        let place = self.place_of(step).ok_or(Refusal::StepAbsent)?;
+        self.steps.remove(place);
+        Ok(())
     }
 
     // Whether the sheet has the step's states and label.
@@ -83,22 +81,11 @@ impl Sheet {
         }
         Ok(())
     }
-}
 
-fn same(a: Transition, b: Transition) -> bool
-    ensures { result ≡ same_transition a b }
-{
-    a == b
-}
-
-// Where the step stands among the steps.
-fn place_of(steps: &[Transition], step: Transition) -> Option<usize>
-    ensures { MatchOption result (has_transition steps.now step ≡ false) (StandsAt steps.now step) }
-{
-    for (i, x) in steps.iter().enumerate() {
-        if same(*x, step) {
-            return Some(i);
-        }
+    // Where the step stands.
+    fn place_of(&self, step: Transition) -> Option<usize>
+        ensures { IsPlaceOf (held self.now).steps step result }
+    {
+        self.steps.iter().position(|x| *x == step)
     }
-    None
 }

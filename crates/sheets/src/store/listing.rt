@@ -1,17 +1,15 @@
 // A sheet as a source: the steps that leave a state, in noting order.
-ghost use Rattle.std.specs.Prelude.{◌≡◌, ◌≤◌, map, length, vec_capacity};
-ghost use Rattle.std.specs.List.{AllByRecursion, slice_get};
-ghost use Rattle.lts.specs.Lists.{filled};
-ghost use Rattle.lts.specs.Systems.{step as step_to, moved};
-ghost use Rattle.sheets.specs.Transitions.{Narrow};
-ghost use Rattle.sheets.specs.Listings.{leaving, step_of, origin_of, process_of, origins_of, ListingsStand};
+ghost use Rattle.std.specs.Prelude.{◌≡◌, ◌≤◌, ◌==◌, count_by};
+ghost use Rattle.std.specs.List.{slice_get};
+ghost use Rattle.lts.specs.Lists.{IsFilled};
+ghost use Rattle.sheets.specs.Listings.{leaving, all_behind, process_of, origins_of, ListingsStand};
 ghost use Rattle.sheets.specs.Held.{held};
 ghost use Rattle.sheets.specs.SheetLimits.{sheet_limits, sheet_originated};
 
 use super::Sheet;
-use crate::transitions::{Listed, Transition};
+use crate::transitions::Listed;
 use lts::sources::Source;
-use lts::steps::{Origin, Side, Step, put};
+use lts::steps::{Origin, Step, put_all};
 
 impl Source for Sheet {
     ghost meaning = { λ s. process_of (held s) };
@@ -31,12 +29,12 @@ impl Source for Sheet {
     }
 
     fn step_count(&self, state: usize) -> usize {
-        count_leaving(&self.steps, state)
+        self.count_leaving(state)
     }
 
     fn step(&self, state: usize, place: usize) -> Option<Step> {
-        let listed = nth_leaving(&self.steps, state, place)?;
-        Some(step_of(listed))
+        self.listed(state, place)
+            .map(|listed| listed.transition.step())
     }
 
     fn list(&self, state: usize, into: &mut Vec<Step>) {
@@ -44,98 +42,52 @@ impl Source for Sheet {
     }
 
     fn origin(&self, state: usize, place: usize) -> Option<Origin> {
-        let listed = nth_leaving(&self.steps, state, place)?;
-        Some(origin_of(listed))
+        self.listed(state, place).map(|listed| listed.origin())
     }
 }
 
 impl Sheet {
-    // Puts the steps that leave the state behind those in the list, as `list` does, with their targets numbered behind n other states.
+    fn count_leaving(&self, state: usize) -> usize
+        ensures { result ≡ count_by (λ x. x.from == state) (held self.now).steps }
+    {
+        self.steps.iter().filter(|x| x.from == state).count()
+    }
+
+    // The step at a place of those that leave the state.
+    fn listed(&self, state: usize, place: usize) -> Option<Listed>
+        ensures { result ≡ slice_get (leaving (held self.now).steps state) place }
+    {
+        self.steps
+            .iter()
+            .enumerate()
+            .map(|(i, x)| Listed {
+                place: i,
+                transition: *x,
+            })
+            .filter(|listed| listed.transition.from == state)
+            .nth(place)
+    }
+
+    // As `step`, with the target numbered behind n other states.
+    pub(crate) fn step_behind(&self, n: usize, state: usize, place: usize) -> Option<Step>
+        requires { n ≤ 48 }
+        ensures { result ≡ slice_get (all_behind n (held self.now) state) place }
+    {
+        self.step(state, place).map(|step| step.moved(n))
+    }
+
+    // As `list`, with the targets numbered behind n other states.
     pub(crate) fn list_behind(&self, n: usize, state: usize, into: &mut Vec<Step>)
         requires { n ≤ 48 }
-        ensures items { into.new.items ≡ filled (vec_capacity into.old) into.old.items (map (moved n) ((process_of (held self.now)).from state)) }
-        ensures room { vec_capacity into.new ≡ vec_capacity into.old }
+        ensures { IsFilled into.old into.new (all_behind n (held self.now) state) }
     {
-        list_leaving(&self.steps, state, n, into);
-    }
-}
-
-fn step_of(listed: Listed) -> Step
-    ensures { result ≡ step_of listed }
-{
-    Step {
-        label: listed.transition.label,
-        target: listed.transition.to,
-    }
-}
-
-fn origin_of(listed: Listed) -> Origin
-    ensures { result ≡ origin_of listed }
-{
-    Origin {
-        side: Side::Left,
-        place: listed.place,
-    }
-}
-
-fn count_leaving(steps: &[Transition], state: usize) -> usize
-    ensures { result ≡ length (leaving steps.now state) }
-{
-    let mut count = 0;
-    for x in steps {
-        if x.from == state {
-            count += 1;
-        }
-    }
-    count
-}
-
-// The step at a place of those that leave the state.
-fn nth_leaving(steps: &[Transition], state: usize, place: usize) -> Option<Listed>
-    ensures { result ≡ slice_get (leaving steps.now state) place }
-{
-    let mut left = place;
-    for (i, x) in steps.iter().enumerate() {
-        if x.from == state {
-            if left == 0 {
-                return Some(Listed {
-                    place: i,
-                    transition: *x,
-                });
-            }
-            left -= 1;
-        }
-    }
-    None
-}
-
-// Puts the steps that leave the state, moved behind n other states, in one walk.
-fn list_leaving(steps: &[Transition], state: usize, n: usize, into: &mut Vec<Step>)
-    requires few { n ≤ 48 }
-    requires narrow { AllByRecursion Narrow steps.now }
-    ensures items { into.new.items ≡ filled (vec_capacity into.old) into.old.items (map (moved n) (map step_of (leaving steps.now state))) }
-    ensures room { vec_capacity into.new ≡ vec_capacity into.old }
-{
-    for x in steps {
-        if x.from == state {
-            put(into, step_behind(n, *x));
-        }
-    }
-}
-
-// The step of a transition, moved behind n other states.
-fn step_behind(n: usize, x: Transition) -> Step
-    requires few { n ≤ 48 }
-    requires narrow { Narrow x }
-    ensures { result ≡ moved n (step_to x.label x.to) }
-{
-    Step {
-        label: x.label,
-        target: n + x.to,
+        let leaving = self.steps.iter().filter(|x| x.from == state);
+        put_all(into, leaving.map(|x| x.step_behind(n)));
     }
 }
 
 // A theorem: a sheet lists for each state exactly the steps on it that leave that state, in noting order and with their places.
+#[tactic(auto, using(crate::proofs::Listings::listings))]
 pub fn listings_stand()
     ensures { ListingsStand }
 {}

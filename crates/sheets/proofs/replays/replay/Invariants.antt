@@ -6,7 +6,7 @@ use Rattle.sheets.specs.Tallies.{answered, calls_of, tally}
 use Rattle.sheets.proofs.Scripts.{script_from, contents_from}
 use Rattle.sheets.proofs.replays.replay.Given as goal
 
-abbrev pub invariant-loop-i : goal.invariant-loop-i
-invariant-loop-i l =
-    (script_from (held l.sheet) l.i l.script ≡ answered (contents_of l.states l.signals []) l.initial.script)
-    × (contents_from (held l.sheet) l.i l.script ≡ tally l.states l.signals (calls_of l.initial.script))
+abbrev pub invariant-loop-entry : goal.invariant-loop-entry
+invariant-loop-entry l =
+    (script_from (held l.sheet) l.entry-index l.script ≡ answered (contents_of l.states l.signals []) l.initial.script)
+    × (contents_from (held l.sheet) l.entry-index l.script ≡ tally l.states l.signals (calls_of l.initial.script))

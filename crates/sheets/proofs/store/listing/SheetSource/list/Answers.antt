@@ -1,14 +1,13 @@
 -- Steps behind no other states are as they are.
-use Rattle.std.proofs.Common.{ap, ◌∙◌}
-use Rattle.lts.proofs.Filled.{filled_by}
-use Rattle.lts.proofs.Moved.{moved_none}
+use Rattle.std.proofs.Common.{subst}
+use Rattle.lts.specs.Lists.{IsFilled}
 use Rattle.sheets.specs.Held.{held}
 use Rattle.sheets.specs.Listings.{process_of}
+use Rattle.sheets.specs.SheetLimits.{sheet_limits}
+use Rattle.sheets.proofs.Sides.{unmoved}
 use Rattle.sheets.proofs.store.listing.SheetSource.list.Goals as goal
 
 pub returns : goal.returns
 returns c =
-    record {
-      items = c.list_behind.ensures.items ∙ ap (filled_by c.args.into.now) (moved_none ((process_of (held c.args.self.now)).from c.args.state));
-      room = c.list_behind.ensures.room;
-    }
+    let s = c.args.self.now in
+    subst (IsFilled c.args.into.now c.list_behind.new.into) (unmoved (process_of (held s)) (sheet_limits s) c.args.state) c.list_behind.ensures

@@ -1,9 +1,13 @@
--- As many steps are listed as transitions.
-use Rattle.std.proofs.Common.{length, sym, ap, ◌∙◌}
+-- As many steps leave the state as are listed.
+use Rattle.std.proofs.Common.{filter, length, sym, ap, ◌∙◌}
 use Rattle.std.proofs.lemmas.List.{length-map}
-use Rattle.sheets.specs.Listings.{leaving, step_of}
+use Rattle.std.proofs.lemmas.List.Sums.{length-filter}
+use Rattle.sheets.proofs.Leaving.{is_from, to_step, steps_leaving}
 use Rattle.sheets.proofs.store.listing.SheetSource.step_count.Goals as goal
 
 pub returns : goal.returns
 returns c =
-    c.count_leaving.ensures ∙ ap (λ xs. length (leaving xs c.args.state)) c.deref.ensures.value ∙ sym (length-map _ step_of)
+    let xs = c.args.self.now.steps.items in
+    let p = c.args.state in
+    c.count_leaving.ensures ∙ sym (length-filter (is_from p) xs) ∙ sym (length-map (filter (is_from p) xs) to_step)
+    ∙ ap length (steps_leaving 0 p xs)
