@@ -1,9 +1,9 @@
 -- Chains: none, one class more, and a walk down one.
-use Rattle.std.proofs.Common.{◌≡◌, ℕ, suc, ◌+◌, ◌<◌, ◌≤◌, List, [], ◌∷◌, ◌++◌, length, get_or, set, sym, ap, ◌∙◌, subst, inl, inr, arith}
-use Rattle.std.proofs.lemmas.List.{get_or-set_same, get_or-set_other, get_or_append_left, get_or_push, length_push}
+use Rattle.std.proofs.Common.{◌≡◌, ℕ, suc, ◌+◌, ◌<◌, ◌≤◌, List, [], ◌∷◌, ◌++◌, length, get_or, set, sym, refl, ap, ◌∙◌, subst, inl, inr, arith}
+use Rattle.std.proofs.lemmas.List.{get_or-set_same, get_or-set_other, get_or_append_left, get_or_push, get_or_read_under, length_push}
 use Rattle.std.proofs.lemmas.Bool.{cases_eq, cases_lt}
 use Rattle.lts.specs.Systems.{System}
-use Rattle.refine.specs.declared.chains.Class.{Class}
+use Rattle.refine.specs.declared.classes.Class.{Class}
 use Rattle.refine.specs.Chains.{bucket, class, hash_at, next_at, Chained, Fit}
 
 pub unlinked : (heads : List ℕ) (made : List Class) → made ≡ [] → ((b : ℕ) → get_or heads b 0 ≡ 0) → Chained heads made
@@ -16,6 +16,10 @@ unlinked heads made e z =
       next_own = λ c e l. absurd (omega (arith, l, none));
       next_all = λ c e l. absurd (omega (arith, l, none));
     }
+
+-- what a read of the list of classes gives
+pub read_class : (made : List Class) (k : ℕ) (x : Class) → x ≡ get_or made k x → k < length made → x ≡ get_or made k (class 0 0 0)
+read_class made k x e l = get_or_read_under made k (length made) x (class 0 0 0) e l refl
 
 -- a class more, at the front of the chain of its bucket
 module _ (heads : List ℕ) (made : List Class) (hash first : ℕ) (lb : bucket hash < length heads) (ch : Chained heads made) where
@@ -118,11 +122,6 @@ abbrev pub LeftOut : System → List ℕ → List ℕ → ℕ → ℕ → List C
 LeftOut S class marks stamp hash made link = (c : ℕ) → link ≤ c → Fit S class marks stamp hash made c → ⊥
 
 module _ (S : System) (class marks : List ℕ) (stamp hash : ℕ) (heads : List ℕ) (made : List Class) (ch : Chained heads made) where
-  pub walk_start : (link : ℕ) → link ≡ get_or heads (bucket hash) 0 → LeftOut S class marks stamp hash made link
-  walk_start link e c l f =
-      let s : get_or heads (bucket (hash_at made c)) 0 ≡ get_or heads (bucket hash) 0 = ap (λ (h : ℕ). get_or heads (bucket h) 0) f.same_hash in
-      omega (arith, ch.head_all c f.there, s)
-
   pub walk_more : (c link : ℕ) → c < length made → link ≡ next_at made c → bucket (hash_at made c) ≡ bucket hash →
       (Fit S class marks stamp hash made c → ⊥) → LeftOut S class marks stamp hash made (c + 1) → LeftOut S class marks stamp hash made link
   walk_more c link lc e mine unfit rest x l f = elim (cases_eq x c) [

@@ -1,15 +1,16 @@
 -- Numbers counted as they are first met, and a census from a run of rounds.
-use Rattle.std.proofs.Common.{◌≡◌, ℕ, ◌+◌, ◌-◌, ◌/◌, ◌<◌, ◌≤◌, ◌↔◌, List, length, get_or, take, sym, ap, ◌∙◌, inl, inr, arith}
-use Rattle.std.proofs.lemmas.List.{get_or-take, get_or-map}
+use Rattle.std.proofs.Common.{◌≡◌, ℕ, ◌+◌, ◌-◌, ◌/◌, ◌<◌, ◌≤◌, ◌↔◌, List, length, get_or, take, sym, ap, ◌∙◌, subst, inl, inr, arith}
+use Rattle.std.proofs.lemmas.List.{length-map, get_or-take, get_or-map}
 use Rattle.std.proofs.lemmas.Bool.{cases_eq, cases_lt}
 use Rattle.lts.specs.declared.environments.Position.TheVariants.{Plain}
 use Rattle.lts.specs.Systems.{System}
 use Rattle.lts.specs.Rounds.{Stable}
 use Rattle.lts.specs.Processes.{Process, ProcessLimits}
 use Rattle.lts.specs.Environments.{surrounded}
+use Rattle.lts.specs.Limits.{surrounded_limits}
 use Rattle.lts.specs.Positions.{number_below}
 use Rattle.lts.specs.Reactive.{ReactivelyBisimilar}
-use Rattle.lts.proofs.Main.{every_process_reduced}
+use Rattle.lts.proofs.Main.{every_process_reduced, rounds_sound}
 use Rattle.lts.proofs.Rounds.{same_refl}
 use Rattle.lts.specs.Classes.{rank}
 use Rattle.lts.proofs.Ranks.{rank_tells, rank_met}
@@ -19,10 +20,7 @@ use Rattle.refine.specs.Ranks.{Ranked, numbers}
 use Rattle.refine.specs.Runs.{Refined}
 use Rattle.refine.specs.Censuses.{AsMet, Counted, Fronted, Census}
 use Rattle.refine.proofs.Told.{unscaled}
-use Rattle.refine.proofs.Runs.{stable_bisimilar, bisimilar_same}
-
-pub counted_none : (xs : List ℕ) → Counted 0 xs 0
-counted_none xs c = ((λ l. absurd (omega (arith, l))), (λ t. absurd (omega (arith, t.1))))
+use Rattle.refine.proofs.Runs.{stable_bisimilar, front_long}
 
 module _ (n : ℕ) (xs : List ℕ) (met : AsMet n xs) (i count : ℕ) (l : i < n) (h : Counted i xs count) where
   -- the number at i is new
@@ -55,7 +53,7 @@ module _ (n : ℕ) (xs : List ℕ) (met : AsMet n xs) (i count : ℕ) (l : i < n
 -- ---- a census
 
 -- the class numbers at the front of memory
-pub front_numbers : (S : System) (n : ℕ) (xs ys : List ℕ) → 1 ≤ S.labels → ys ≡ xs → Ranked S n xs →
+front_numbers : (S : System) (n : ℕ) (xs ys : List ℕ) → 1 ≤ S.labels → ys ≡ xs → Ranked S n xs →
     (m k : ℕ) → k < m → k < S.states → k < length (take (m - 0) ys) → get_or (numbers S.labels (take (m - 0) ys)) k 0 ≡ rank S n k
 front_numbers S n xs ys some e rk m k l lk inside =
     get_or-map (λ (b : ℕ). b / S.labels) (take (m - 0) ys) k 0 0 inside
@@ -63,7 +61,7 @@ front_numbers S n xs ys some e rk m k l lk inside =
     ∙ unscaled (rank S n k) S.labels some
 
 -- no round separates a state from itself
-pub settled : (S : System) (p : ℕ) (v : Verdict) (xs : List ℕ) → Refined S p p v xs → (n : ℕ) × Stable S n × Ranked S n xs
+settled : (S : System) (p : ℕ) (v : Verdict) (xs : List ℕ) → Refined S p p v xs → (n : ℕ) × Stable S n × Ranked S n xs
 settled S p Alike xs r = (r.0, r.1, r.3)
 settled S p (Apart n) xs r = absurd (r.0.apart (same_refl S n p))
 
@@ -72,7 +70,7 @@ module _ (M : Process) (f : ProcessLimits M) (n : ℕ) (stable : Stable (surroun
   inside : (p : ℕ) → p < M.states → p < (surrounded M).states
   inside p l = number_below M (Plain p) l
 
-  pub front_met : AsMet (length front) front
+  front_met : AsMet (length front) front
   front_met p c l m =
       let lp : p < M.states = omega (arith, l, long) in
       let q = rank_met (surrounded M) n p c (omega (arith, m, at p lp)) in
@@ -85,10 +83,10 @@ module _ (M : Process) (f : ProcessLimits M) (n : ℕ) (stable : Stable (surroun
       let k = rank_tells (surrounded M) n p q in (
         (λ e. (red.reduction p q lp lq).1
             (stable_bisimilar (surrounded M) red.limits n p q (inside p lp) (inside q lq) stable (k.0 (sym (at p lp) ∙ e ∙ at q lq)))),
-        (λ b. at p lp ∙ k.1 (bisimilar_same (surrounded M) p q ((red.reduction p q lp lq).0 b) n) ∙ sym (at q lq)),
+        (λ b. at p lp ∙ k.1 (rounds_sound (surrounded M) p q ((red.reduction p q lp lq).0 b) n) ∙ sym (at q lq)),
       )
 
-  pub census_of : (before after : List ℕ) (count : ℕ) → Fronted front before after → Counted (length front) front count → Census M before after count
+  census_of : (before after : List ℕ) (count : ℕ) → Fronted front before after → Counted (length front) front count → Census M before after count
   census_of before after count w h =
       let put = λ (k : ℕ) (l : k < M.states). w.written k (omega (arith, l, long)) in record {
         tells = λ p q lp lq. let t = tells p q lp lq in ((λ e. t.0 (sym (put p lp) ∙ e ∙ put q lq)), (λ b. put p lp ∙ t.1 b ∙ sym (put q lq)));
@@ -102,3 +100,32 @@ module _ (M : Process) (f : ProcessLimits M) (n : ℕ) (stable : Stable (surroun
         long = w.long;
         beyond = λ k l. w.beyond k (omega (arith, l, long));
       }
+
+-- the memory of a run from a state to itself, lent as `begins`, with m states in front
+module _ (M : Process) (f : ProcessLimits M) (m labels : ℕ) (v : Verdict) (kept begins : List ℕ) (is : m ≡ M.states) (named : labels ≡ (surrounded M).labels)
+    (lent : begins ≡ kept) (wide : length kept ≡ 3168) (run : Refined (surrounded M) 0 0 v kept) where
+  abbrev front : List ℕ
+  front = numbers labels (take (m - 0) begins)
+
+  front_whole : length (take (m - 0) begins) ≡ m
+  front_whole = front_long m begins (omega (arith, ap length lent, wide, is, f.few_states))
+
+  front_states : length front ≡ M.states
+  front_states = length-map (take (m - 0) begins) (λ (b : ℕ). b / labels) ∙ front_whole ∙ is
+
+  stable_round : (n : ℕ) × Stable (surrounded M) n × Ranked (surrounded M) n kept
+  stable_round = settled (surrounded M) 0 v kept run
+
+  front_rank : (k : ℕ) → k < M.states → get_or front k 0 ≡ rank (surrounded M) stable_round.0 k
+  front_rank k l =
+      ap (λ (n : ℕ). get_or (numbers n (take (m - 0) begins)) k 0) named
+      ∙ front_numbers (surrounded M) stable_round.0 kept begins (surrounded_limits M f).some_label lent stable_round.2 m k
+      (omega (arith, l, is)) (number_below M (Plain k) l) (omega (arith, l, is, front_whole))
+
+  pub run_met : AsMet (length (take (m - 0) begins)) front
+  run_met = subst (λ (n : ℕ). AsMet n front) (front_states ∙ sym (front_whole ∙ is)) (front_met M f stable_round.0 stable_round.1 front front_states front_rank)
+
+  pub run_census : (before after : List ℕ) (count : ℕ) → Fronted front before after → Counted (length (take (m - 0) begins)) front count → Census M before after count
+  run_census before after count w h =
+      census_of M f stable_round.0 stable_round.1 front front_states front_rank before after count w
+      (subst (λ (n : ℕ). Counted n front count) (front_whole ∙ is ∙ sym front_states) h)

@@ -5,9 +5,11 @@ pub mod Coded
 pub mod Marking
 pub mod Chaining
 pub mod Tabled
+pub mod Places
 pub mod Signs
 pub mod Turns
+pub mod RankedCodes
 pub mod Told
-pub mod Places
 pub mod Runs
+pub mod Present
 pub mod Counts

@@ -1,5 +1,5 @@
 -- One step more is marked.
-use Rattle.std.proofs.Common.{◌≡◌, ℕ, ◌+◌, ◌<◌, ◌≤◌, false, eqb, ◌≢◌, List, length, get_or, take, set, sym, ap, ◌∙◌, inl, inr, arith}
+use Rattle.std.proofs.Common.{◌≡◌, ℕ, ◌+◌, ◌<◌, ◌≤◌, true, false, eqb, ◌≢◌, List, length, get_or, take, set, sym, ap, ◌∙◌, inl, inr, arith}
 use Rattle.std.proofs.lemmas.List.{get_or-set_same, get_or-set_other, set_past}
 use Rattle.std.proofs.lemmas.Bool.{cases_eq, cases_lt, eq-eqb, ne_eqb}
 use Rattle.lts.specs.declared.steps.Step.{Step}
@@ -12,8 +12,8 @@ module _ (class : List ℕ) (xs : List Step) (stamp : ℕ) where
   abbrev pub Marked : ℕ → List ℕ → ℕ → Type 0
   Marked size marks k = (c : ℕ) → c < size → eqb (get_or marks c 0) stamp ≡ coded class (take k xs) c
 
-  pub marked_none : (marks : List ℕ) → ((c : ℕ) → get_or marks c 0 < stamp) → Marked (length marks) marks 0
-  marked_none marks fresh c l = ne_eqb _ _ (λ e. omega (arith, fresh c)) ∙ sym (coded_none class xs c)
+  pub marked_none : (size : ℕ) (marks : List ℕ) → ((c : ℕ) → get_or marks c 0 < stamp) → Marked size marks 0
+  marked_none size marks fresh c l = ne_eqb _ _ (λ e. omega (arith, fresh c)) ∙ sym (coded_none class xs c)
 
   module _ (size : ℕ) (marks : List ℕ) (k at : ℕ) (inside : k < length xs) (is : at ≡ code class (get_or xs k (step 0 0))) (long : length marks ≡ size) (here : at < size) (m : Marked size marks k) where
     pub marked_more : Marked size (set marks at stamp) (k + 1)
@@ -27,23 +27,20 @@ module _ (class : List ℕ) (xs : List Step) (stamp : ℕ) where
     ]
 
     -- the code was not there
-    pub unmarked : (get_or marks at 0 ≡ stamp → ⊥) → coded class (take k xs) at ≡ false
-    unmarked ne = sym (m at here) ∙ ne_eqb _ _ ne
-
-    pub weighed_more : (get_or marks at 0 ≡ stamp → ⊥) → weigh (coded class (take (k + 1) xs)) size ≡ weight at + weigh (coded class (take k xs)) size
-    weighed_more ne =
-        weigh_more (coded class (take k xs)) (coded class (take (k + 1) xs)) size at here (unmarked ne)
+    pub weighed_more : eqb (get_or marks at 0) stamp ≡ false → weigh (coded class (take (k + 1) xs)) size ≡ weight at + weigh (coded class (take k xs)) size
+    weighed_more e =
+        weigh_more (coded class (take k xs)) (coded class (take (k + 1) xs)) size at here (sym (m at here) ∙ e)
         (ap (coded class (take (k + 1) xs)) is ∙ coded_here class xs k inside)
         (λ c h. sym (coded_other class xs k inside c (λ e. h (e ∙ sym is))))
 
     -- the code was there already
-    again : get_or marks at 0 ≡ stamp → (c : ℕ) → coded class (take (k + 1) xs) c ≡ coded class (take k xs) c
-    again e = coded_again class xs k inside (ap (coded class (take k xs)) (sym is) ∙ sym (m at here) ∙ eq-eqb _ _ e)
+    again : eqb (get_or marks at 0) stamp ≡ true → (c : ℕ) → coded class (take (k + 1) xs) c ≡ coded class (take k xs) c
+    again e = coded_again class xs k inside (ap (coded class (take k xs)) (sym is) ∙ sym (m at here) ∙ e)
 
-    pub marked_again : get_or marks at 0 ≡ stamp → Marked size marks (k + 1)
+    pub marked_again : eqb (get_or marks at 0) stamp ≡ true → Marked size marks (k + 1)
     marked_again e c l = m c l ∙ sym (again e c)
 
-    pub weighed_again : get_or marks at 0 ≡ stamp → weigh (coded class (take (k + 1) xs)) size ≡ weigh (coded class (take k xs)) size
+    pub weighed_again : eqb (get_or marks at 0) stamp ≡ true → weigh (coded class (take (k + 1) xs)) size ≡ weigh (coded class (take k xs)) size
     weighed_again e = weigh_same _ _ size (λ c l. again e c)
 
 pub bound_more : (marks : List ℕ) (at stamp : ℕ) → ((c : ℕ) → get_or marks c 0 ≤ stamp) → (c : ℕ) → get_or (set marks at stamp) c 0 ≤ stamp

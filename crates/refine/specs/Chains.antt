@@ -2,7 +2,7 @@
 use Rattle.std.specs.Prelude.{◌≡◌, ℕ, suc, ◌%◌, ◌<◌, ◌≤◌, true, List, length, slice_index, slice_index_or}
 use Rattle.lts.specs.Systems.{System}
 use Rattle.lts.specs.Classes.{count_below, leader}
-use Rattle.refine.specs.declared.chains.Class.{Class}
+use Rattle.refine.specs.declared.classes.Class.{Class}
 use Rattle.refine.specs.Codes.{coded, marked, weigh}
 
 abbrev pub bucket : ℕ → ℕ

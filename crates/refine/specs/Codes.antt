@@ -1,7 +1,7 @@
 -- A step's code, by which the steps with one label to one class go together; and the weight of a set of codes.
 use Rattle.std.specs.Prelude.{ℕ, zero, suc, ◌+◌, ◌*◌, ◌/◌, ◌%◌, ◌^◌, ◌<◌, Bool, cond, List, length, get_or, bit_xor, nat_eq, slice_index, slice_index_or}
+use Rattle.std.specs.List.{list_all, list_any}
 use Rattle.lts.specs.declared.steps.Step.{Step}
-use Rattle.lts.specs.Lists.{any, all}
 use Rattle.lts.specs.Systems.{step}
 
 -- the code of a step: its label, counted from where the codes of its target's class begin
@@ -10,11 +10,11 @@ code begins s = slice_index begins s.target + s.label
 
 -- c is the code of one of the steps
 unfoldable pub coded : List ℕ → List Step → ℕ → Bool
-coded begins xs c = any (λ (s : Step). nat_eq (code begins s) c) xs
+coded begins xs c = list_any (λ (s : Step). nat_eq (code begins s) c) xs
 
 -- each step's code is marked with the stamp
 unfoldable pub marked : List ℕ → List ℕ → ℕ → List Step → Bool
-marked begins marks stamp xs = all (λ (s : Step). nat_eq (slice_index marks (code begins s)) stamp) xs
+marked begins marks stamp xs = list_all (λ (s : Step). nat_eq (slice_index marks (code begins s)) stamp) xs
 
 -- each step leads to a state that has a class, and its code is below a bound
 abbrev pub Placed : List ℕ → ℕ → List Step → Type 0

@@ -1,8 +1,10 @@
 -- The definitions that contracts cite.
+pub mod Rows
 pub mod Tables
 pub mod Codes
 pub mod Chains
 pub mod Ranks
+pub mod Rankings
 pub mod Runs
 pub mod Copies
 pub mod Verdicts

@@ -1,19 +1,20 @@
 // Making and finding classes.
-ghost use Rattle.std.specs.Prelude.{◌≡◌, ℕ, ◌+◌, ◌<◌, ◌≤◌, ◌&&◌, [], ◌∷◌, ◌++◌, length, vec_len, MatchOption, ◌==◌, slice_index};
-ghost use Rattle.refine.specs.Codes.{marked, Placed};
-ghost use Rattle.refine.specs.Tables.{table_system};
-ghost use Rattle.refine.specs.Chains.{bucket as bucket_of, class as class_of, first_at, Chained, Fit};
+ghost use Rattle.std.specs.Prelude.{◌≡◌, ℕ, ◌<◌, ◌&&◌, [], ◌∷◌, ◌++◌, length, MatchOption, ◌==◌, slice_index};
+ghost use Rattle.refine.specs.Rankings.{ranked_marked, RankedFit};
+ghost use Rattle.refine.specs.Chains.{bucket as bucket_of, class as class_of};
 
-use super::{BUCKETS, Chains, Class};
+use super::{BUCKETS, Chains};
+use crate::classes::Class;
 use crate::marks::Marks;
-use crate::tables::Table;
+use crate::rankings::Ranking;
+use crate::workspaces::MOST_STATES;
 use std::alloc::{AllocError, Global};
 
 impl Chains {
     // No classes, and room for as many as a plain system has states.
     pub(crate) fn new(heap: Global) -> Result<Chains, AllocError> {
         let heads = vec![in heap; 0u16; BUCKETS]?;
-        let made = Vec::with_capacity(heap, 3168)?;
+        let made = Vec::with_capacity(heap, MOST_STATES)?;
         Ok(Chains { heads, made })
     }
 
@@ -25,33 +26,24 @@ impl Chains {
 
     // Forgets every class.
     pub(crate) fn clear(&mut self)
-        ensures none { self.new.made.items ≡ [] }
-        ensures chained { Chained self.new.heads.items self.new.made.items }
+        ensures { self.new.made.items ≡ [] }
     {
         self.made.clear();
-        unlink(self.heads.as_mut_slice());
+        self.heads.fill(0);
     }
 
     // The class with this hash whose first state's steps are all marked.
-    pub(crate) fn seek(
-        &self,
-        table: &Table,
-        begins: &[u32],
-        marks: &Marks,
-        hash: u64,
-    ) -> Option<usize>
-        requires placed { (p : ℕ) → Placed begins.now 126720 ((table_system table.now).from p) }
-        requires chained { Chained self.now.heads.items self.now.made.items }
-        requires inside { (c : ℕ) → c < length self.now.made.items → first_at self.now.made.items c < table.now.states }
+    pub(crate) fn seek(&self, ranking: &Ranking, marks: &Marks, hash: u64) -> Option<usize>
         ensures { MatchOption result
-            ((c : ℕ) → Fit (table_system table.now) begins.now marks.now.stamps.items marks.now.last hash self.now.made.items c → ⊥)
-            (Fit (table_system table.now) begins.now marks.now.stamps.items marks.now.last hash self.now.made.items) }
+            ((c : ℕ) → RankedFit ranking.now marks.now hash self.now.made.items c → ⊥)
+            (RankedFit ranking.now marks.now hash self.now.made.items) }
     {
+        // by hand: `successors` counts as endless, so `find` takes it only under a `take`, whose bound would say nothing of the chain
         let mut link = self.heads[bucket(hash)] as usize;
         while link > 0 {
             let c = link - 1;
             let made = self.made[c];
-            if fits(made, table, begins, marks, hash) {
+            if fits(made, ranking, marks, hash) {
                 return Some(c);
             }
             link = made.next as usize;
@@ -63,10 +55,9 @@ impl Chains {
     pub(crate) fn add(&mut self, hash: u64, first: usize) -> usize
         requires room { length self.old.made.items < 3168 }
         requires small { first < 3168 }
-        requires chained { Chained self.old.heads.items self.old.made.items }
         ensures number { result ≡ length self.old.made.items }
-        ensures made { self.new.made.items ≡ self.old.made.items ++ class_of hash first (slice_index self.old.heads.items (bucket_of hash)) ∷ [] }
-        ensures chained { Chained self.new.heads.items self.new.made.items }
+        ensures made { let next = slice_index self.old.heads.items (bucket_of hash) in
+            self.new.made.items ≡ self.old.made.items ++ class_of hash first next ∷ [] }
     {
         let number = self.made.len();
         let b = bucket(hash);
@@ -82,12 +73,10 @@ impl Chains {
 }
 
 // Whether a class has the hash and its first state's steps are all marked.
-fn fits(made: Class, table: &Table, begins: &[u32], marks: &Marks, hash: u64) -> bool
-    requires placed { (p : ℕ) → Placed begins.now 126720 ((table_system table.now).from p) }
-    requires inside { made.first < table.now.states }
-    ensures { result ≡ (made.hash == hash && marked begins.now marks.now.stamps.items marks.now.last ((table_system table.now).from made.first)) }
+fn fits(made: Class, ranking: &Ranking, marks: &Marks, hash: u64) -> bool
+    ensures { result ≡ (made.hash == hash && ranked_marked ranking.now marks.now made.first) }
 {
-    made.hash == hash && marks.cover(table.steps(made.first as usize), begins)
+    made.hash == hash && marks.cover(&ranking.signature(made.first as usize))
 }
 
 fn bucket(hash: u64) -> usize
@@ -95,13 +84,4 @@ fn bucket(hash: u64) -> usize
     ensures small { result < 4096 }
 {
     (hash % BUCKETS as u64) as usize
-}
-
-// Empties every chain.
-fn unlink(heads: &mut [u16])
-    ensures { (b : ℕ) → slice_index heads.new b ≡ 0 }
-{
-    for head in heads.iter_mut() {
-        *head = 0;
-    }
 }

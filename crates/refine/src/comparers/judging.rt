@@ -1,14 +1,15 @@
 // Judge, strict and census, the users' calls, and the comparison of any plain system behind them.
-ghost use Rattle.std.specs.Prelude.{◌≡◌, ◌<◌, ◌≤◌, length};
+ghost use Rattle.std.specs.Prelude.{◌≤◌, length};
 ghost use Rattle.lts.specs.Environments.{surrounded};
 ghost use Rattle.refine.specs.Ranks.{numbers};
 ghost use Rattle.refine.specs.Runs.{Refined};
 ghost use Rattle.refine.specs.Verdicts.{Compared, StrictlyJudged, Judged};
 ghost use Rattle.refine.specs.Censuses.{AsMet, Counted, Fronted, Censused};
 
-use super::{Comparer, MOST_LEAVING, MOST_STATES};
+use super::Comparer;
+use crate::pairs::Pair;
 use crate::tables::copies::Copied;
-use crate::tables::filling::tabulate;
+use crate::tables::rows::Rows;
 use crate::verdicts::{CensusRefusal, Verdict};
 use crate::workspaces::Workspace;
 use lts::environments::Surrounded;
@@ -20,30 +21,23 @@ use std::alloc::{AllocError, Global};
 impl Comparer {
     // Only this call can fail for want of memory.
     pub fn new(heap: Global) -> Result<Comparer, AllocError> {
-        let starts = Vec::with_capacity(heap, MOST_STATES + 1)?;
-        let steps = Vec::with_capacity(heap, MOST_STATES * MOST_LEAVING)?;
+        let rows = Rows::new(heap)?;
         let workspace = Workspace::new(heap)?;
-        Ok(Comparer {
-            starts,
-            steps,
-            workspace,
-        })
+        Ok(Comparer { rows, workspace })
     }
 
-    // Whether two states of a source are alike in every environment, or the first round that separates them.
+    // Whether two states of a source are alike in every environment, or the first round that separates them. The two states are two numbers,
+    // here and below: whether the source has them is for the call to say.
     pub fn judge<S: Source>(
         &mut self,
         source: &S,
         left: usize,
         right: usize,
     ) -> Result<Verdict, Refusal>
-        ensures { Judged (S.Source.meaning source.now) left right result }
+        ensures { Judged (S.meaning source.now) left right result }
     {
-        let states = source.states();
-        if left >= states || right >= states {
-            return Err(Refusal::AbsentState);
-        }
-        Ok(self.surround(source, left, right))
+        let pair = Pair::of(left, right, source.states())?;
+        Ok(self.surround(source, pair))
     }
 
     // The same with all labels taken alike, time-outs too.
@@ -53,7 +47,7 @@ impl Comparer {
         left: usize,
         right: usize,
     ) -> Result<Verdict, Refusal>
-        ensures { StrictlyJudged (S.Source.meaning source.now) left right result }
+        ensures { StrictlyJudged (S.meaning source.now) left right result }
     {
         self.compare(&Bare { source }, left, right)
     }
@@ -65,13 +59,10 @@ impl Comparer {
         left: usize,
         right: usize,
     ) -> Result<Verdict, Refusal>
-        ensures { Compared (L.Lts.system lts.now) left right result }
+        ensures { Compared (L.system lts.now) left right result }
     {
-        let states = lts.states();
-        if left >= states || right >= states {
-            return Err(Refusal::AbsentState);
-        }
-        Ok(self.workspace.run(lts, left, right))
+        let pair = Pair::of(left, right, lts.states())?;
+        Ok(self.workspace.run(lts, pair))
     }
 
     // Writes the class of each state under judge to the front of the list, and answers how many classes there are.
@@ -80,27 +71,35 @@ impl Comparer {
         source: &S,
         classes: &mut [usize],
     ) -> Result<usize, CensusRefusal>
-        ensures { Censused (S.Source.meaning source.now) classes.old classes.new result }
+        ensures { Censused (S.meaning source.now) classes.old classes.new result }
     {
         let states = source.states();
         if classes.len() < states {
             return Err(CensusRefusal::BufferTooShort);
         }
         // no round separates a state from itself, so the rounds go on until one is stable
-        let _ = self.surround(source, 0, 0);
+        let pair = Pair {
+            left: 0,
+            right: 0,
+            states,
+        };
+        let _ = self.surround(source, pair);
         let labels = Surrounded::of(source).labels();
         Ok(write_down(&self.workspace.begins[0..states], labels, classes))
     }
 
-    // Refines a copy of the source in its environments.
-    fn surround<S: Source>(&mut self, source: &S, left: usize, right: usize) -> Verdict
-        requires left { left < (S.Source.meaning source.now).states }
-        requires right { right < (S.Source.meaning source.now).states }
-        ensures { Refined (surrounded (S.Source.meaning source.now)) left right result self.new.workspace.begins.items }
+    // Refines a copy of the source in its environments. That the pair's states are there is asked at each step of the way: a pair goes from
+    // the source to its surrounded system and to the table, which have as many states or more, and no one type has all three.
+    fn surround<S: Source>(&mut self, source: &S, pair: Pair) -> Verdict
+        requires { pair.states ≤ (S.meaning source.now).states }
+        ensures { Refined (surrounded (S.meaning source.now)) pair.left pair.right result
+            self.new.workspace.begins.items }
     {
-        tabulate(&Bare { source }, &mut self.starts, &mut self.steps);
-        let copied = Copied::of(source, &self.starts, &self.steps);
-        self.workspace.run(&Surrounded::of(&copied), left, right)
+        let bare = Bare { source };
+        self.rows.list(&bare);
+        let table = self.rows.table(&bare);
+        let copied = Copied::of(source, table);
+        self.workspace.run(&Surrounded::of(&copied), pair)
     }
 }
 
@@ -113,8 +112,9 @@ fn write_down(begins: &[u32], labels: usize, classes: &mut [usize]) -> usize
     ensures counted { Counted (length begins.now) (numbers labels begins.now) result }
 {
     let mut count = 0;
-    for state in 0..begins.len() {
-        let class = begins[state] as usize / labels;
+    // by place, since a proof knows nothing of what a loop over `iter_mut` writes under a `zip`
+    for (state, begin) in begins.iter().enumerate() {
+        let class = *begin as usize / labels;
         classes[state] = class;
         if class == count {
             count += 1;

@@ -1,15 +1,11 @@
 -- Each number is written, and counted where it is first met.
-use Rattle.std.proofs.Common.{◌≡◌, ℕ, ◌+◌, ◌/◌, ◌<◌, ◌≢◌, List, length, get_or, sym, refl, ◌∙◌, subst, arith, get_or-set_other, get_or-set_same, below_more}
-use lib.ListN.{length-map}
-use Rattle.std.proofs.lemmas.List.{get_or-map}
+use Rattle.std.proofs.Common.{◌≡◌, ℕ, ◌+◌, ◌/◌, ◌<◌, ◌≢◌, List, length, get_or, sym, ◌∙◌, subst, arith, get_or-set_other, get_or-set_same, below_more}
+use Rattle.std.proofs.lemmas.List.{get_or-map, length-map}
 use Rattle.refine.specs.Ranks.{numbers}
 use Rattle.refine.specs.Censuses.{Counted}
-use Rattle.refine.proofs.Counts.{counted_none, counted_new, counted_old}
+use Rattle.refine.proofs.Counts.{counted_new, counted_old}
 use Rattle.refine.proofs.comparers.judging.write_down.Goals as goal
 use Rattle.refine.proofs.comparers.judging.write_down.Goals.{then-class-count, else-class-count}
-
-pub loop-state-init : goal.loop-state-init
-loop-state-init c = ((λ k l. absurd (omega (arith, l))), (λ k l. refl), counted_none (numbers c.args.labels c.args.begins.now))
 
 pub loop-state-preserved : goal.loop-state-preserved
 loop-state-preserved c =
