@@ -6,4 +6,6 @@ mod editing;
 #[cfg(test)]
 mod positions;
 #[cfg(test)]
+mod shared;
+#[cfg(test)]
 mod sources;

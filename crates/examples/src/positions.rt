@@ -1,4 +1,5 @@
 // Plain systems of a source: the bare one, and positions of the surrounded one with their lists.
+use crate::shared::{to, write};
 use lts::environments::{Position, Surrounded};
 use lts::sources::Source;
 use lts::steps::{Step, signal_letter};
@@ -6,7 +7,6 @@ use lts::systems::{Bare, Lts};
 use sheets::joins::Join;
 use sheets::refusals::Refusal;
 use sheets::store::Sheet;
-use sheets::transitions::Transition;
 use std::test::Fail;
 
 #[test]
@@ -18,43 +18,15 @@ fn letters(rt: HostRuntime) {
 }
 
 // State 0 steps inside to 1, hears a, and times out to 1; state 1 times out to 0, and hears b.
-fn write(sheet: &mut Sheet) -> Result<(), Refusal> {
-    sheet.new_sheet(2, 2)?;
-    sheet.note(Transition {
-        from: 0,
-        label: 1,
-        to: 1,
-    })?;
-    sheet.note(Transition {
-        from: 0,
-        label: 2,
-        to: 0,
-    })?;
-    sheet.note(Transition {
-        from: 0,
-        label: 0,
-        to: 1,
-    })?;
-    sheet.note(Transition {
-        from: 1,
-        label: 3,
-        to: 1,
-    })?;
-    sheet.note(Transition {
-        from: 1,
-        label: 1,
-        to: 0,
-    })
-}
-
-fn to(label: usize, target: usize) -> Option<Step> {
-    Some(Step { label, target })
+fn write_small(sheet: &mut Sheet) -> Result<(), Refusal> {
+    let steps = [(0, 1, 1), (0, 2, 0), (0, 0, 1), (1, 3, 1), (1, 1, 0)];
+    write(sheet, 2, 2, &steps)
 }
 
 #[test]
 fn bare_system(rt: HostRuntime) -> Result<(), Fail> {
     let mut sheet = Sheet::blank(rt.alloc())?;
-    write(&mut sheet)?;
+    write_small(&mut sheet)?;
     let system = Bare { source: &sheet };
     assert_eq!(rt;
         (system.states(), system.labels(), system.step_count(0)),
@@ -70,7 +42,7 @@ fn bare_system(rt: HostRuntime) -> Result<(), Fail> {
 #[test]
 fn plain_position(rt: HostRuntime) -> Result<(), Fail> {
     let mut sheet = Sheet::blank(rt.alloc())?;
-    write(&mut sheet)?;
+    write_small(&mut sheet)?;
     let system = Surrounded::of(&sheet);
     assert_eq!(rt; (system.states(), system.labels()), (10, 9));
     // four settlings, then the inner step
@@ -90,7 +62,7 @@ fn plain_position(rt: HostRuntime) -> Result<(), Fail> {
 #[test]
 fn positions_under(rt: HostRuntime) -> Result<(), Fail> {
     let mut sheet = Sheet::blank(rt.alloc())?;
-    write(&mut sheet)?;
+    write_small(&mut sheet)?;
     let system = Surrounded::of(&sheet);
     // 0 under {a}: busy, so its time-out waits; the inner step first, then the signal
     assert_eq!(rt; system.step_count(4), 2);
@@ -114,21 +86,17 @@ fn positions_under(rt: HostRuntime) -> Result<(), Fail> {
 
 // Whether a list of all steps has just those that are asked for place by place.
 fn listed_alike<L: Lts>(system: &L, state: usize, steps: &[Step]) -> bool {
-    if system.step_count(state) != steps.len() {
-        return false;
-    }
-    for (place, step) in steps.iter().enumerate() {
-        if system.step(state, place) != Some(*step) {
-            return false;
-        }
-    }
-    true
+    system.step_count(state) == steps.len()
+        && steps
+            .iter()
+            .enumerate()
+            .all(|(place, step)| system.step(state, place) == Some(*step))
 }
 
 #[test]
 fn lists_all(rt: HostRuntime) -> Result<(), Fail> {
     let mut sheet = Sheet::blank(rt.alloc())?;
-    write(&mut sheet)?;
+    write_small(&mut sheet)?;
     let bare = Bare { source: &sheet };
     let system = Surrounded::of(&sheet);
     let mut into = Vec::with_capacity(rt.alloc(), 8)?;
@@ -145,10 +113,7 @@ fn lists_all(rt: HostRuntime) -> Result<(), Fail> {
     Ok(())
 }
 
-fn plain(state: usize) -> Position {
-    Position::Plain { state }
-}
-
+// Short for a check of one line, where a position in full takes four. The tour has the same, but a program sees no test's helper.
 fn under(allowed: usize, state: usize) -> Position {
     Position::Under { allowed, state }
 }
@@ -165,8 +130,8 @@ fn numbers_of_positions(rt: HostRuntime) -> Result<(), Fail> {
     assert_eq!(rt; system.position(3168), None);
     assert_eq!(rt; system.number(under(32, 0)), None);
     assert_eq!(rt; system.number(under(0, 96)), None);
-    assert_eq!(rt; system.number(plain(95)), Some(95));
-    assert_eq!(rt; system.number(plain(96)), None);
+    assert_eq!(rt; system.number(Position::Plain { state: 95 }), Some(95));
+    assert_eq!(rt; system.number(Position::Plain { state: 96 }), None);
     // an idle state under any environment has the change alone
     assert_eq!(rt; system.step_count(3167), 1);
     assert_eq!(rt; system.step(3167, 0), to(7, 95));

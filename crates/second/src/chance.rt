@@ -12,8 +12,9 @@ impl Dice {
         Dice { seed }
     }
 
-    // A number below the bound.
-    pub fn below(&mut self, bound: usize) -> usize
+    // A number below the bound. Each caller knows that its bound is not 0: a literal, a number of states or labels, or a count that
+    // was tested.
+    pub(crate) fn below(&mut self, bound: usize) -> usize
         requires { 0 < bound }
         ensures { result < bound }
     {

@@ -1,7 +1,7 @@
 // What is to be written on the sheets.
 ghost use Rattle.std.specs.Prelude.{◌<◌};
 
-use lts::steps::signal_letter;
+use lts::labels::Label;
 use sheets::refusals::Refusal;
 use sheets::store::Sheet;
 use sheets::transitions::Transition;
@@ -10,7 +10,8 @@ use std::fmt;
 
 pub mod drawing;
 
-// The labels: an inner step, a time-out, and the first signals.
+// The labels: an inner step, a time-out, and the first signals. They are numbers here, as a sheet takes them. The tests of `comparisons` have
+// the same five: in lts they would be a second way to say what a `Label` is.
 pub const TAU: usize = 0;
 
 pub const T: usize = 1;
@@ -23,35 +24,43 @@ pub const C: usize = 4;
 
 // A sheet to be written. A step may stand here twice, and is noted once.
 #[derive(Drop)]
-pub struct Draft {
-    states: usize,
-    signals: usize,
-    steps: Vec<Transition>,
+pub struct Draft<S = Vec<Transition>> {
+    pub states: usize,
+    pub signals: usize,
+    pub steps: S,
     ghost some_state: { 0 < states },
     ghost few_states: { states < 32 },
     ghost few_signals: { signals < 32 },
 }
 
-impl Draft {
-    pub fn of(
-        heap: Global,
-        states: usize,
-        signals: usize,
-        steps: &[Transition],
-    ) -> Result<Draft, AllocError>
-        requires { (0 < states) × (states < 32) × (signals < 32) }
-    {
-        let steps = steps.to_vec(heap)?;
+// A draft as a table has it. Each step has the state that it leaves, its label, and the state that it leads to.
+pub type Sketch = Draft<&'static [(usize, usize, usize)]>;
+
+// The two sheets of a join.
+#[derive(Drop)]
+pub struct Drafts {
+    pub left: Draft,
+    pub right: Draft,
+}
+
+impl Sketch {
+    pub fn draft(&self, heap: Global) -> Result<Draft, AllocError> {
         Ok(Draft {
-            states,
-            signals,
-            steps,
+            states: self.states,
+            signals: self.signals,
+            steps: self
+                .steps
+                .iter()
+                .map(|step| Transition::from(*step))
+                .collect(heap)?,
         })
     }
+}
 
+impl Draft {
     pub fn write(&self, sheet: &mut Sheet) -> Result<(), Refusal> {
         sheet.new_sheet(self.states, self.signals)?;
-        for step in self.steps.iter() {
+        for step in &self.steps {
             note_once(sheet, *step)?;
         }
         Ok(())
@@ -67,33 +76,18 @@ fn note_once(sheet: &mut Sheet, step: Transition) -> Result<(), Refusal> {
 
 impl fmt::Display for Draft {
     fn fmt<W: fmt::Write>(&self, f: &mut fmt::Formatter<W>) -> fmt::Result {
-        let states = self.states;
-        let signals = self.signals;
-        write!(f, "states {states}, signals {signals}")?;
-        for step in self.steps.iter() {
-            let from = step.from;
-            let label = Word(step.label);
-            let to = step.to;
-            write!(f, "; {from} {label} {to}")?;
+        write!(f, "states {}, signals {}", self.states, self.signals)?;
+        for step in &self.steps {
+            let label = Label::from(step.label);
+            write!(f, "; {} {label} {}", step.from, step.to)?;
         }
         Ok(())
     }
 }
 
-// A label as it is written.
-#[derive(Clone, Copy)]
-struct Word(usize);
-
-impl fmt::Display for Word {
+impl fmt::Display for Drafts {
     fn fmt<W: fmt::Write>(&self, f: &mut fmt::Formatter<W>) -> fmt::Result {
-        match self.0 {
-            0 => return write!(f, "tau"),
-            1 => return write!(f, "t"),
-            _ => {}
-        }
-        match signal_letter(self.0 - 2) {
-            Some(letter) => write!(f, "{letter}"),
-            None => write!(f, "?"),
-        }
+        writeln!(f, "  left sheet: {}", self.left)?;
+        write!(f, "  right sheet: {}", self.right)
     }
 }

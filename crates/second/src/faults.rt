@@ -1,37 +1,12 @@
 // What can stop the program.
 use sheets::refusals::Refusal;
 use std::alloc::AllocError;
-use std::error::Error;
-use std::fmt;
+use thiserror::Error;
 
-#[derive(Debug, Drop)]
+#[derive(Debug, Drop, Error)]
 pub enum Fault {
-    NoMemory,
-    Refused(Refusal),
+    #[error("out of memory")]
+    NoMemory(#[from] AllocError),
+    #[error(transparent)]
+    Refused(#[from] Refusal),
 }
-
-impl From<AllocError> for Fault {
-    fn from(_e: AllocError) -> Fault {
-        Fault::NoMemory
-    }
-}
-
-impl From<Refusal> for Fault {
-    fn from(refusal: Refusal) -> Fault {
-        Fault::Refused(refusal)
-    }
-}
-
-impl fmt::Display for Fault {
-    fn fmt<W: fmt::Write>(&self, f: &mut fmt::Formatter<W>) -> fmt::Result {
-        match self {
-            Fault::NoMemory => write!(f, "out of memory"),
-            Fault::Refused(refusal) => {
-                let number = refusal.number();
-                write!(f, "refused {number}")
-            }
-        }
-    }
-}
-
-impl Error for Fault {}

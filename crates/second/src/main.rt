@@ -3,9 +3,9 @@
 
 use crate::chance::Dice;
 use crate::counts::Tally;
-use crate::drafts::Draft;
-use crate::known::{show_alike, show_apart, show_late, word};
-use crate::trials::{Bench, Dispute};
+use crate::drafts::Drafts;
+use crate::known::show_known;
+use crate::trials::Bench;
 
 mod chance;
 mod counts;
@@ -14,64 +14,34 @@ mod faults;
 mod holding;
 mod known;
 mod matching;
-mod tables;
+mod pairs;
 mod trials;
 
 const JOINS: usize = 6000;
 
-fn show_dispute(
-    rt: &HostRuntime,
-    left: &Draft,
-    right: &Draft,
-    dispute: Dispute,
-) -> anyhow::Result<()> {
-    let second = word(dispute.opinions.second);
-    let main = word(dispute.opinions.main);
-    println!(rt;
-        "The states {} and {} of a join are {second} to the second comparer, and {main} to the main one:",
-        dispute.left, dispute.right
-    )?;
-    println!(rt; "  left sheet: {left}")?;
-    println!(rt; "  right sheet: {right}")?;
-    Ok(())
-}
-
 // Compares joins drawn by chance, and shows the first dispute.
-fn compare_many(rt: &HostRuntime, bench: &mut Bench, tally: &mut Tally) -> anyhow::Result<()> {
+fn compare_many(rt: &HostRuntime, bench: &mut Bench) -> anyhow::Result<Tally> {
     let mut dice = Dice::new(2020);
-    let mut disputed = false;
+    let mut tally = Tally::default();
+    let mut first = None;
     for _ in 0..JOINS {
-        let left = Draft::random(rt.alloc(), &mut dice)?;
-        let right = left.relative(rt.alloc(), &mut dice)?;
-        if let Some(dispute) = bench.compare(&left, &right, tally)? {
-            if !disputed {
-                show_dispute(rt, &left, &right, dispute)?;
-                disputed = true;
-            }
+        let drafts = Drafts::random(rt.alloc(), &mut dice)?;
+        let dispute = bench.compare(&drafts, &mut tally)?;
+        if let (None, Some(dispute)) = (first, dispute) {
+            println!(rt; "{dispute}:\n{drafts}")?;
         }
+        first = first.or(dispute);
     }
-    Ok(())
-}
-
-fn show_tally(rt: &HostRuntime, tally: &Tally) -> anyhow::Result<()> {
-    println!(rt; "Joins drawn by chance: {}", tally.joins)?;
-    println!(rt; "  pairs of states: {}", tally.pairs)?;
-    println!(rt; "  the comparers agree: {}", tally.agreed)?;
-    println!(rt; "  alike: {}", tally.alike)?;
-    println!(rt; "  alike, of two states: {}", tally.alike_of_two)?;
-    println!(rt; "  alike, but not strictly: {}", tally.alike_not_strictly)?;
-    Ok(())
+    Ok(tally)
 }
 
 fn run(rt: &HostRuntime) -> anyhow::Result<()> {
     let mut bench = Bench::new(rt.alloc())?;
     println!(rt; "Known pairs, by the second comparer and by the main one:")?;
-    show_alike(rt, &mut bench)?;
-    show_apart(rt, &mut bench)?;
-    show_late(rt, &mut bench)?;
-    let mut tally = Tally::default();
-    compare_many(rt, &mut bench, &mut tally)?;
-    show_tally(rt, &tally)
+    show_known(rt, &mut bench)?;
+    let tally = compare_many(rt, &mut bench)?;
+    println!(rt; "{tally}")?;
+    Ok(())
 }
 
 fn main(rt: HostRuntime) -> anyhow::Result<()> {

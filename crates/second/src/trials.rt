@@ -1,8 +1,9 @@
 // Both comparers at work on the join of two sheets.
-use crate::counts::{Opinions, Tally};
-use crate::drafts::Draft;
+use crate::counts::{Opinions, Tally, word};
+use crate::drafts::Drafts;
 use crate::faults::Fault;
 use crate::holding::Held;
+use crate::pairs::Pair;
 use lts::sources::Source;
 use refine::comparers::Comparer;
 use refine::verdicts::Verdict;
@@ -10,6 +11,7 @@ use sheets::joins::Join;
 use sheets::refusals::Refusal;
 use sheets::store::Sheet;
 use std::alloc::{AllocError, Global};
+use std::fmt;
 
 // Two sheets and the main comparer, which serve for every join.
 #[derive(Drop)]
@@ -23,95 +25,91 @@ pub struct Bench {
 // A pair of states on which the comparers disagree.
 #[derive(Clone, Copy)]
 pub struct Dispute {
-    pub left: usize,
-    pub right: usize,
-    pub opinions: Opinions,
+    pair: Pair,
+    opinions: Opinions,
+}
+
+impl fmt::Display for Dispute {
+    fn fmt<W: fmt::Write>(&self, f: &mut fmt::Formatter<W>) -> fmt::Result {
+        let Pair { left, right } = self.pair;
+        let second = word(self.opinions.second);
+        let main = word(self.opinions.main);
+        write!(
+            f,
+            "The states {left} and {right} of a join are {second} to the second comparer, and {main} to the main one"
+        )
+    }
 }
 
 impl Bench {
     pub fn new(heap: Global) -> Result<Bench, AllocError> {
-        let left = Sheet::blank(heap)?;
-        let right = Sheet::blank(heap)?;
-        let comparer = Comparer::new(heap)?;
         Ok(Bench {
             heap,
-            left,
-            right,
-            comparer,
+            left: Sheet::blank(heap)?,
+            right: Sheet::blank(heap)?,
+            comparer: Comparer::new(heap)?,
         })
     }
 
-    fn lay(&mut self, left: &Draft, right: &Draft) -> Result<(), Refusal> {
-        left.write(&mut self.left)?;
-        right.write(&mut self.right)
+    fn lay(&mut self, drafts: &Drafts) -> Result<(), Refusal> {
+        drafts.left.write(&mut self.left)?;
+        drafts.right.write(&mut self.right)
     }
 
-    // What is said of the first states of both sheets.
-    pub fn ask(&mut self, left: &Draft, right: &Draft) -> Result<Opinions, Fault> {
-        self.lay(left, right)?;
+    // What is said of the first states of both sheets. What is held borrows the join, so no function could make both for this call and the
+    // next, and return them.
+    pub fn ask(&mut self, drafts: &Drafts) -> Result<Opinions, Fault> {
+        self.lay(drafts)?;
         let join = Join::of(&self.left, &self.right);
         let held = Held::of(self.heap, &join)?;
-        let right = self.left.states();
-        Ok(opinions(&held, &mut self.comparer, &join, 0, right)?)
+        let firsts = Pair {
+            left: 0,
+            right: self.left.states(),
+        };
+        Ok(held.opinions(&mut self.comparer, firsts)?)
     }
 
     // Counts what is said of every pair of states, each with itself too, and answers the first pair in dispute.
     pub fn compare(
         &mut self,
-        left: &Draft,
-        right: &Draft,
+        drafts: &Drafts,
         tally: &mut Tally,
     ) -> Result<Option<Dispute>, Fault> {
-        self.lay(left, right)?;
+        self.lay(drafts)?;
         let join = Join::of(&self.left, &self.right);
         let held = Held::of(self.heap, &join)?;
         tally.count_join();
-        Ok(compare_all(&held, &mut self.comparer, &join, tally)?)
+        Ok(held.compare_all(&mut self.comparer, tally)?)
     }
 }
 
-fn compare_all<S: Source>(
-    held: &Held,
-    comparer: &mut Comparer,
-    source: &S,
-    tally: &mut Tally,
-) -> Result<Option<Dispute>, Refusal> {
-    let mut first = None;
-    for left in 0..source.states() {
-        for right in left..source.states() {
-            let opinions = opinions(held, comparer, source, left, right)?;
-            tally.count_pair(left, right, opinions);
-            if first.is_none() && !opinions.agree() {
-                first = Some(Dispute {
-                    left,
-                    right,
-                    opinions,
-                });
+impl<'a, S: Source> Held<'a, S> {
+    fn compare_all(
+        &self,
+        comparer: &mut Comparer,
+        tally: &mut Tally,
+    ) -> Result<Option<Dispute>, Refusal> {
+        let mut first = None;
+        for left in 0..self.source.states() {
+            for right in left..self.source.states() {
+                let pair = Pair { left, right };
+                let opinions = self.opinions(comparer, pair)?;
+                tally.count_pair(pair, opinions);
+                if !opinions.agree() {
+                    first.get_or_insert(Dispute { pair, opinions });
+                }
             }
         }
+        Ok(first)
     }
-    Ok(first)
-}
 
-fn opinions<S: Source>(
-    held: &Held,
-    comparer: &mut Comparer,
-    source: &S,
-    left: usize,
-    right: usize,
-) -> Result<Opinions, Refusal> {
-    let main = comparer.judge(source, left, right)?;
-    let strict = comparer.strict(source, left, right)?;
-    Ok(Opinions {
-        second: held.alike(left, right),
-        main: says_alike(main),
-        strict: says_alike(strict),
-    })
-}
-
-fn says_alike(verdict: Verdict) -> bool {
-    match verdict {
-        Verdict::Alike => true,
-        Verdict::Apart { round: _ } => false,
+    fn opinions(&self, comparer: &mut Comparer, pair: Pair) -> Result<Opinions, Refusal> {
+        let main = comparer.judge(self.source, pair.left, pair.right)?;
+        let strict = comparer.strict(self.source, pair.left, pair.right)?;
+        Ok(Opinions {
+            second: self.alike(pair),
+            main: main == Verdict::Alike,
+            strict: strict == Verdict::Alike,
+        })
     }
 }

@@ -32,22 +32,19 @@ impl Source for Fullest {
         5
     }
 
+    #[tactic(auto, using(crate::specs::FullestLimits::length_listed))]
     fn step_count(&self, state: usize) -> usize {
         count_at(state)
     }
 
+    #[tactic(auto, using(crate::proofs::Places::nth_listed))]
     fn step(&self, state: usize, place: usize) -> Option<Step> {
-        if place < count_at(state) {
-            return Some(step_at(state, place));
-        }
-        None
+        (place < count_at(state)).then(|| step_at(state, place))
     }
 
+    #[tactic(auto, using(crate::proofs::Places::nth_listed))]
     fn origin(&self, state: usize, place: usize) -> Option<Origin> {
-        if place < count_at(state) {
-            return Some(origin_at(place));
-        }
-        None
+        (place < count_at(state)).then(|| origin_at(place))
     }
 }
 

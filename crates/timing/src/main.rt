@@ -9,36 +9,38 @@ use refine::verdicts::Verdict;
 use sheets::joins::Join;
 use sheets::refusals::Refusal;
 use sheets::store::Sheet;
-use sheets::transitions::Transition;
 use std::io::{BufRead, BufReader};
 use std::mem::swap;
-use std::time::Instant;
+use std::str::SplitWhitespace;
+use std::time::{Duration, Instant};
 
 mod fullest;
 
-fn number(word: Option<&str>) -> anyhow::Result<usize> {
-    Ok(word.context("a number is missing")?.parse::<usize>()?)
-}
-
-fn accepted<T: Drop>(answer: Result<T, Refusal>) -> anyhow::Result<T> {
-    match answer {
-        Ok(value) => Ok(value),
-        Err(_) => Err(anyhow!("refused")),
+// The numbers that come next.
+fn numbers<const N: usize>(words: &mut SplitWhitespace) -> anyhow::Result<[usize; N]> {
+    let mut numbers = [0; N];
+    for number in &mut numbers {
+        *number = words.next().context("a number is missing")?.parse()?;
     }
+    Ok(numbers)
 }
 
-// A judgement, and the nanoseconds that it took.
+// Which refusal it was is of no use to `bench/run`.
+fn refused(_: Refusal) -> anyhow::Error {
+    anyhow!("refused")
+}
+
+// A judgement, and how long it took. The two states are two numbers, as `judge` takes them.
 fn timed<S: Source>(
     rt: &HostRuntime,
     comparer: &mut Comparer,
     source: &S,
     left: usize,
     right: usize,
-) -> anyhow::Result<(Verdict, u128)> {
+) -> anyhow::Result<(Verdict, Duration)> {
     let start = Instant::now(rt)?;
-    let verdict = accepted(comparer.judge(source, left, right))?;
-    let took = start.elapsed(rt)?;
-    Ok((verdict, took.as_nanos()))
+    let verdict = comparer.judge(source, left, right).map_err(refused)?;
+    Ok((verdict, start.elapsed(rt)?))
 }
 
 // Judges once to warm up, then as often as asked, with one comparer.
@@ -52,12 +54,14 @@ fn measure<S: Source>(
     let mut comparer = Comparer::new(rt.alloc())?;
     let (verdict, mut quickest) = timed(rt, &mut comparer, source, left, right)?;
     for _ in 0..times {
-        let (_, nanos) = timed(rt, &mut comparer, source, left, right)?;
-        quickest = quickest.min(nanos);
+        let (_, took) = timed(rt, &mut comparer, source, left, right)?;
+        quickest = quickest.min(took);
     }
+    let nanos = quickest.as_nanos();
+    // the one place that prints a verdict: a type of its own with a Display would hold the same match
     match verdict {
-        Verdict::Alike => println!(rt; "alike {quickest}")?,
-        Verdict::Apart { round } => println!(rt; "apart {round} {quickest}")?,
+        Verdict::Alike => println!(rt; "alike {nanos}")?,
+        Verdict::Apart { round } => println!(rt; "apart {round} {nanos}")?,
     }
     Ok(())
 }
@@ -71,24 +75,28 @@ fn run(rt: &HostRuntime) -> anyhow::Result<()> {
     for line in BufReader::new(rt.alloc(), rt.stdin())?.lines(rt.alloc()) {
         let line = line?;
         let mut words = line.as_str().split_whitespace();
-        let word = words.next().context("an empty line")?;
-        let a = number(words.next())?;
-        let b = number(words.next())?;
-        if word == "sheet" {
-            swap(&mut old, &mut new);
-            accepted(new.new_sheet(a, b))?;
-            continue;
-        }
-        let c = number(words.next())?;
-        match word {
-            "step" => accepted(new.note(Transition {
-                from: a,
-                label: b,
-                to: c,
-            }))?,
-            "ask" => measure(rt, &Join::of(&old, &new), a, b, c)?,
-            "limit" => measure(rt, &Fullest, a, b, c)?,
-            _ => return Err(anyhow!("an unknown line")),
+        match words.next().context("an empty line")? {
+            "sheet" => {
+                let [states, signals] = numbers::<2>(&mut words)?;
+                swap(&mut old, &mut new);
+                new.new_sheet(states, signals).map_err(refused)?;
+            }
+            "step" => {
+                let [from, label, to] = numbers::<3>(&mut words)?;
+                new.note((from, label, to).into()).map_err(refused)?;
+            }
+            "ask" => {
+                let [left, right, times] = numbers::<3>(&mut words)?;
+                measure(rt, &Join::of(&old, &new), left, right, times)?;
+            }
+            "limit" => {
+                let [left, right, times] = numbers::<3>(&mut words)?;
+                measure(rt, &Fullest, left, right, times)?;
+            }
+            _ => {
+                numbers::<3>(&mut words)?;
+                return Err(anyhow!("an unknown line"));
+            }
         }
     }
     Ok(())

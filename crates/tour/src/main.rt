@@ -2,41 +2,29 @@
 #![tactic(auto)]
 
 ghost use Rattle.std.specs.Prelude.{◌≡◌, None};
-ghost use Rattle.lts.specs.declared.environments.Position.TheVariants.{Plain, Under};
-ghost use Rattle.sheets.specs.Transitions.{transition};
-ghost use Rattle.sheets.specs.declared.replays.Call.TheVariants.{Note, Strike};
+ghost use Rattle.lts.specs.declared.environments.Position.TheVariants.{Under};
 
-use crate::words::{Answer, Label, Place};
-use lts::environments::{Position, Surrounded};
+use crate::words::{Answer, Order, Place, Word};
+use lts::environments::Position::{self, Plain, Under};
+use lts::environments::Surrounded;
 use lts::sources::Source;
 use lts::systems::Lts;
 use sheets::joins::Join;
-use sheets::replays::{Call, Entry, replay};
+use sheets::replays::Call::{self, Note, Strike};
+use sheets::replays::{Entry, replay};
 use sheets::store::Sheet;
-use sheets::transitions::Transition;
 
 mod words;
 
 // A call that is not yet carried out.
-fn note(from: usize, label: usize, to: usize) -> Entry
-    ensures { result ≡ record { call = Note (transition from label to); answer = None } }
+fn entry(call: Call) -> Entry
+    ensures { result ≡ record { call = call; answer = None } }
 {
-    Entry {
-        call: Call::Note(Transition { from, label, to }),
-        answer: None,
-    }
+    Entry { call, answer: None }
 }
 
-fn strike(from: usize, label: usize, to: usize) -> Entry
-    ensures { result ≡ record { call = Strike (transition from label to); answer = None } }
-{
-    Entry {
-        call: Call::Strike(Transition { from, label, to }),
-        answer: None,
-    }
-}
-
-// Carries out a script on a new sheet, and prints each call with its answer.
+// Carries out a script on a new sheet, and prints each call with its answer. The sizes are two numbers, as `replay` takes them: a type of
+// them would be made here only to be taken apart.
 fn write(
     rt: &HostRuntime,
     sheet: &mut Sheet,
@@ -47,23 +35,14 @@ fn write(
     let made = Answer(replay(sheet, states, signals, script));
     println!(rt; "new sheet (states {states}, signals {signals}): {made}")?;
     for entry in script.iter() {
-        let (word, step) = match entry.call {
-            Call::Note(step) => ("note", step),
-            Call::Strike(step) => ("strike", step),
-        };
         if let Some(answer) = entry.answer {
-            // a slip may name a signal that the sheet lacks
-            let label = Label {
-                label: step.label,
-                signals: 5,
-            };
-            let answer = Answer(answer);
-            println!(rt; "  {word} {} {label} {}: {answer}", step.from, step.to)?;
+            println!(rt; "  {}: {}", Order(entry.call), Answer(answer))?;
         }
     }
     Ok(())
 }
 
+// `rt` and the join go side by side: a struct of both would only be taken apart.
 fn list_join(rt: &HostRuntime, join: &Join) -> anyhow::Result<()> {
     let states = join.states();
     let signals = join.signals();
@@ -77,32 +56,23 @@ fn list_join(rt: &HostRuntime, join: &Join) -> anyhow::Result<()> {
 // The steps that leave a state, each with the side and the place where it was noted.
 fn list_state(rt: &HostRuntime, join: &Join, state: usize) -> anyhow::Result<()> {
     let signals = join.signals();
-    for place in 0..join.step_count(state) {
-        if let (Some(step), Some(origin)) = (join.step(state, place), join.origin(state, place)) {
-            let label = Label {
-                label: step.label,
-                signals,
-            };
-            let side = origin.side.number();
-            println!(rt;
-                "  {state} {label} {}  (side {side}, place {})",
-                step.target, origin.place
-            )?;
-        }
+    let listed = |place: usize| join.step(state, place).zip(join.origin(state, place));
+    for (step, origin) in (0..join.step_count(state)).filter_map(listed) {
+        let label = Word::of(step.label, signals);
+        let side = origin.side.number();
+        println!(rt;
+            "  {state} {label} {}  (side {side}, place {})",
+            step.target, origin.place
+        )?;
     }
     Ok(())
 }
 
-fn plain(state: usize) -> Position
-    ensures { result ≡ Plain state }
-{
-    Position::Plain { state }
-}
-
+// Short for a list: in full, a position under a set takes four lines of it.
 fn under(allowed: usize, state: usize) -> Position
     ensures { result ≡ Under allowed state }
 {
-    Position::Under { allowed, state }
+    Under { allowed, state }
 }
 
 // The steps that leave one position of the surrounded system.
@@ -115,43 +85,42 @@ fn list_position(rt: &HostRuntime, join: &Join, position: Position) -> anyhow::R
         return Ok(());
     };
     println!(rt; "{from}, state {state} of {}:", system.states())?;
-    for place in 0..system.step_count(state) {
-        if let Some(step) = system.step(state, place) {
-            let label = Label {
-                label: step.label,
-                signals,
-            };
-            if let Some(position) = system.position(step.target) {
-                let to = Place(position);
-                println!(rt; "  {label} to {to}")?;
-            }
+    for step in (0..system.step_count(state)).filter_map(|place| system.step(state, place)) {
+        let label = Word::of(step.label, signals);
+        if let Some(position) = system.position(step.target) {
+            println!(rt; "  {label} to {}", Place(position))?;
         }
     }
     Ok(())
 }
 
-// The old sheet's script, with a step struck and noted again, and slips of each kind.
+// The old sheet's script, with a step struck and noted again, and slips of each kind but a full sheet. A sheet takes labels by their numbers: 0 for tau, 1
+// for t, 2 for a.
 fn write_old(rt: &HostRuntime, sheet: &mut Sheet) -> anyhow::Result<()> {
     println!(rt; "The old sheet, with some slips:")?;
     write(rt, sheet, 49, 1, &mut [])?;
     let mut script = [
-        note(0, 2, 1),
-        note(0, 1, 2),
-        note(4, 2, 1),
-        note(0, 3, 1),
-        note(0, 2, 1),
-        note(2, 0, 3),
-        note(2, 2, 3),
-        strike(2, 2, 3),
-        strike(2, 2, 3),
-        note(2, 2, 3),
+        entry(Note((0, 2, 1).into())),
+        entry(Note((0, 1, 2).into())),
+        entry(Note((4, 2, 1).into())),
+        entry(Note((0, 3, 1).into())),
+        entry(Note((0, 2, 1).into())),
+        entry(Note((2, 0, 3).into())),
+        entry(Note((2, 2, 3).into())),
+        entry(Strike((2, 2, 3).into())),
+        entry(Strike((2, 2, 3).into())),
+        entry(Note((2, 2, 3).into())),
     ];
     write(rt, sheet, 4, 1, &mut script)
 }
 
 fn write_new(rt: &HostRuntime, sheet: &mut Sheet) -> anyhow::Result<()> {
     println!(rt; "The new sheet:")?;
-    let mut script = [note(0, 2, 1), note(0, 1, 2), note(2, 0, 3)];
+    let mut script = [
+        entry(Note((0, 2, 1).into())),
+        entry(Note((0, 1, 2).into())),
+        entry(Note((2, 0, 3).into())),
+    ];
     write(rt, sheet, 4, 1, &mut script)
 }
 
@@ -165,13 +134,13 @@ fn run(rt: &HostRuntime) -> anyhow::Result<()> {
     list_join(rt, &join)?;
     println!(rt; "Some positions, alone or under a set of allowed signals:")?;
     let positions = [
-        plain(0),
+        Plain { state: 0 },
         under(0, 0),
         under(1, 0),
         under(0, 2),
         under(1, 2),
         under(1, 6),
-        plain(8),
+        Plain { state: 8 },
     ];
     for position in positions {
         list_position(rt, &join, position)?;

@@ -1,7 +1,8 @@
 // How the tour writes answers, labels and positions.
 use lts::environments::Position;
-use lts::steps::signal_letter;
+use lts::labels::Label;
 use sheets::refusals::Refusal;
+use sheets::replays::Call;
 use std::fmt;
 
 // `done`, or `refused` and the number.
@@ -12,37 +13,56 @@ impl fmt::Display for Answer {
     fn fmt<W: fmt::Write>(&self, f: &mut fmt::Formatter<W>) -> fmt::Result {
         match self.0 {
             Ok(()) => write!(f, "done"),
-            Err(refusal) => {
-                let number = refusal.number();
-                write!(f, "refused {number}")
-            }
+            Err(refusal) => write!(f, "{refusal}"),
         }
     }
 }
 
-// A label of a surrounded system with this many signals. Beside the words of a sheet, `stir` says that the environment changes.
+// What a label of a surrounded system says.
 #[derive(Clone, Copy)]
-pub struct Label {
-    pub label: usize,
-    pub signals: usize,
+pub enum Word {
+    // a label of the source
+    Own(Label),
+    // the environment changes
+    Stir,
+    // the environment settles on a set of signals
+    Settle(Set),
 }
 
-impl fmt::Display for Label {
+impl Word {
+    // What the number of a label says where the source has this many signals.
+    pub fn of(label: usize, signals: usize) -> Word {
+        match Label::from(label) {
+            Label::Signal(number) if number == signals => Word::Stir,
+            Label::Signal(number) if number > signals => Word::Settle(Set(number - signals - 1)),
+            own => Word::Own(own),
+        }
+    }
+}
+
+impl fmt::Display for Word {
     fn fmt<W: fmt::Write>(&self, f: &mut fmt::Formatter<W>) -> fmt::Result {
-        match self.label {
-            0 => return write!(f, "tau"),
-            1 => return write!(f, "t"),
-            _ => {}
+        match self {
+            Word::Own(label) => write!(f, "{label}"),
+            Word::Stir => write!(f, "stir"),
+            Word::Settle(set) => write!(f, "settle on {set}"),
         }
-        let signal = self.label - 2;
-        if signal < self.signals {
-            return write_signal(f, signal);
-        }
-        if signal == self.signals {
-            return write!(f, "stir");
-        }
-        let set = Set(signal - self.signals - 1);
-        write!(f, "settle on {set}")
+    }
+}
+
+// A call of a script, with the label's word in place of its number.
+#[derive(Clone, Copy)]
+pub struct Order(pub Call);
+
+impl fmt::Display for Order {
+    fn fmt<W: fmt::Write>(&self, f: &mut fmt::Formatter<W>) -> fmt::Result {
+        let (word, step) = match self.0 {
+            Call::Note(step) => ("note", step),
+            Call::Strike(step) => ("strike", step),
+        };
+        // a slip may name a signal that the sheet lacks, and that is a signal all the same
+        let label = Label::from(step.label);
+        write!(f, "{word} {} {label} {}", step.from, step.to)
     }
 }
 
@@ -54,33 +74,22 @@ impl fmt::Display for Place {
     fn fmt<W: fmt::Write>(&self, f: &mut fmt::Formatter<W>) -> fmt::Result {
         match self.0 {
             Position::Plain { state } => write!(f, "{state} plain"),
-            Position::Under { allowed, state } => {
-                let set = Set(allowed);
-                write!(f, "{state} under {set}")
-            }
+            Position::Under { allowed, state } => write!(f, "{state} under {}", Set(allowed)),
         }
     }
 }
 
-// A set of signals in braces.
+// A set of signals in braces, numbered as `Position` says. Five signals are the most that a sheet has.
 #[derive(Clone, Copy)]
-struct Set(usize);
+pub struct Set(usize);
 
 impl fmt::Display for Set {
     fn fmt<W: fmt::Write>(&self, f: &mut fmt::Formatter<W>) -> fmt::Result {
         write!(f, "{{")?;
-        for signal in 0..5 {
-            if (self.0 >> signal) % 2 == 1 {
-                write_signal(f, signal)?;
-            }
+        // by hand, as `has_signal` of lts is private and this would be its one use outside
+        for signal in (0..5).filter(|signal| (self.0 >> *signal) % 2 == 1) {
+            write!(f, "{}", Label::Signal(signal))?;
         }
         write!(f, "}}")
-    }
-}
-
-fn write_signal<W: fmt::Write>(f: &mut fmt::Formatter<W>, signal: usize) -> fmt::Result {
-    match signal_letter(signal) {
-        Some(letter) => write!(f, "{letter}"),
-        None => write!(f, "?"),
     }
 }

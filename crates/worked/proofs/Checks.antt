@@ -2,7 +2,7 @@
 use Rattle.std.proofs.Common.{◌≡◌, ℕ, zero, suc, ◌<◌, ◌≤◌, Bool, true, false, not, ◌&&◌, leb, List, [], ◌∷◌, length, Some, None, Option, sym, refl, ap, ◌∙◌, arith}
 use Rattle.std.specs.List.{AllByRecursion}
 use Rattle.std.proofs.lemmas.Bool.{and_parts, leb-true, not-true, false≢true}
-use Rattle.lts.specs.Lists.{all}
+use Rattle.std.specs.List.{list_all as all}
 use Rattle.lts.specs.Systems.{System}
 use Rattle.lts.specs.Rounds.{same}
 use Rattle.lts.specs.Processes.{Process, ProcessLimits, has, allowed, idle}

@@ -2,7 +2,7 @@
 use Rattle.std.proofs.Common.{◌≡◌, ℕ, zero, suc, Bool, true, cond, ◌&&◌, eqb, List, [], ◌∷◌, ◌++◌, map, filter, ap, subst, subst₂, inl, inr}
 use Rattle.std.proofs.lemmas.Bool.{and_parts, or_cases, eqb-true, false≢true}
 use Rattle.lts.specs.declared.steps.Step.{Step}
-use Rattle.lts.specs.Lists.{any, all}
+use Rattle.std.specs.List.{list_any as any, list_all as all}
 use Rattle.lts.specs.Systems.{Listing, System, step}
 use Rattle.lts.specs.Rounds.{Met}
 use Rattle.lts.specs.Bisimulations.{Bisimulation, Holds}

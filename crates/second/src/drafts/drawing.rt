@@ -1,55 +1,58 @@
 // Small drafts drawn by chance, and others that differ from them in little.
-use super::{A, Draft, T};
+ghost use Rattle.std.specs.Prelude.{◌<◌, IfSome, vec_len};
+
+use super::{A, Draft, Drafts, T};
 use crate::chance::Dice;
+use lts::labels::Label;
 use sheets::transitions::Transition;
 use std::alloc::{AllocError, Global};
 
-// How the right sheet of a join comes from the left one.
-enum Change {
-    Added,
-    Unheard,
-    Struck,
-    Split,
-    Redrawn,
-}
-
-impl Change {
-    fn random(dice: &mut Dice) -> Change {
-        match dice.below(6) {
-            0 => Change::Added,
-            1 => Change::Struck,
-            2 => Change::Split,
-            3 => Change::Redrawn,
-            _ => Change::Unheard,
-        }
+// Some draws take the heap beside the dice: in a struct of both it would reach those too that only draw.
+impl Drafts {
+    pub fn random(heap: Global, dice: &mut Dice) -> Result<Drafts, AllocError> {
+        let left = Draft::random(heap, dice)?;
+        let right = left.relative(heap, dice)?;
+        Ok(Drafts { left, right })
     }
 }
 
 impl Draft {
-    // One to four states, at most two signals, and at most six steps. Half of those with signals surely have a state that waits for one:
-    // much of what a comparer can get wrong shows only there.
-    pub fn random(heap: Global, dice: &mut Dice) -> Result<Draft, AllocError> {
-        let states = 1 + dice.below(4);
-        let signals = dice.below(3);
-        let mut draft = Draft::of(heap, states, signals, &[])?;
-        if dice.below(2) == 0 {
-            draft.add_waiting(dice)?;
-        }
-        for _ in 0..dice.below(5) {
-            draft.add(dice)?;
-        }
+    // One to four states, and at most two signals.
+    fn random(heap: Global, dice: &mut Dice) -> Result<Draft, AllocError> {
+        let mut draft = Draft {
+            states: 1 + dice.below(4),
+            signals: dice.below(3),
+            steps: Vec::new(heap),
+        };
+        draft.add_some(dice)?;
         Ok(draft)
     }
 
-    // Another draft, mostly with one change, so that many states of the two are alike.
-    pub fn relative(&self, heap: Global, dice: &mut Dice) -> Result<Draft, AllocError> {
-        let mut draft = Draft::of(heap, self.states, self.signals, &self.steps)?;
-        match Change::random(dice) {
-            Change::Added => draft.add(dice)?,
-            Change::Unheard => draft.add_unheard(dice)?,
-            Change::Struck => draft.strike(dice),
-            Change::Split => draft.split(heap, dice)?,
-            Change::Redrawn => draft = Draft::random(heap, dice)?,
+    // At most six steps. Half of the drafts with signals surely get a state that waits for one: much of what a comparer can get wrong shows
+    // only there.
+    fn add_some(&mut self, dice: &mut Dice) -> Result<(), AllocError> {
+        if dice.below(2) == 0 {
+            self.add_waiting(dice)?;
+        }
+        for _ in 0..dice.below(5) {
+            self.add(dice)?;
+        }
+        Ok(())
+    }
+
+    // Another draft, mostly with one change, so that many states of the two are alike. A third of the changes are signals that go unheard.
+    fn relative(&self, heap: Global, dice: &mut Dice) -> Result<Draft, AllocError> {
+        let mut draft = Draft {
+            states: self.states,
+            signals: self.signals,
+            steps: self.steps.clone()?,
+        };
+        match dice.below(6) {
+            0 => draft.add(dice)?,
+            1 => draft.strike(dice),
+            2 => draft.split(heap, dice)?,
+            3 => draft = Draft::random(heap, dice)?,
+            _ => draft.add_unheard(dice)?,
         }
         Ok(draft)
     }
@@ -81,25 +84,31 @@ impl Draft {
     // difference only once the environment has changed.
     fn add_unheard(&mut self, dice: &mut Dice) -> Result<(), AllocError> {
         for _ in 0..20 {
-            if let (Some(wait), Some(heard)) = (self.any_step(dice), self.any_step(dice)) {
-                if wait.label == T && heard.from == wait.from && heard.label >= A {
-                    return self.add_from(wait.to, heard.label, dice);
-                }
+            if let (Some(wait), Some(heard)) = (self.any_step(dice), self.any_step(dice))
+                && Label::from(wait.label) == Label::TimeOut
+                && heard.from == wait.from
+                && matches!(Label::from(heard.label), Label::Signal(_))
+            {
+                return self.add_from(wait.to, heard.label, dice);
             }
         }
         Ok(())
     }
 
+    // The place of a step, if there are steps.
+    fn any_place(&self, dice: &mut Dice) -> Option<usize>
+        ensures { IfSome result (λ place. place < vec_len self.now.steps) }
+    {
+        let count = self.steps.len();
+        (count > 0).then(|| dice.below(count))
+    }
+
     fn any_step(&self, dice: &mut Dice) -> Option<Transition> {
-        if self.steps.is_empty() {
-            return None;
-        }
-        Some(self.steps[dice.below(self.steps.len())])
+        self.steps.get(self.any_place(dice)?).copied()
     }
 
     fn strike(&mut self, dice: &mut Dice) {
-        if !self.steps.is_empty() {
-            let place = dice.below(self.steps.len());
+        if let Some(place) = self.any_place(dice) {
             self.steps.remove(place);
         }
     }
@@ -112,13 +121,12 @@ impl Draft {
         let state = dice.below(self.states);
         let twin = self.states;
         let mut steps = Vec::new(heap);
-        for step in self.steps.iter() {
+        for step in &self.steps {
             steps.push(turned(*step, state, twin, dice))?;
             if step.from == state {
                 let copied = Transition {
                     from: twin,
-                    label: step.label,
-                    to: step.to,
+                    ..*step
                 };
                 steps.push(turned(copied, state, twin, dice))?;
             }
@@ -132,11 +140,8 @@ impl Draft {
 // A step to the state, by chance turned to its twin.
 fn turned(step: Transition, state: usize, twin: usize, dice: &mut Dice) -> Transition {
     if step.to == state && dice.below(2) == 0 {
-        return Transition {
-            from: step.from,
-            label: step.label,
-            to: twin,
-        };
+        Transition { to: twin, ..step }
+    } else {
+        step
     }
-    step
 }
