@@ -12,7 +12,7 @@ module _ {X : Type 0} where
   take_behind (suc c) (x ∷ xs) ys = ap (λ (zs : List X). x ∷ zs) (take_behind c xs ys)
 
   -- filled by one list and then by another
-  filled_twice : (c : ℕ) (old xs ys : List X) → filled c (filled c old xs) ys ≡ filled c old (xs ++ ys)
+  pub filled_twice : (c : ℕ) (old xs ys : List X) → filled c (filled c old xs) ys ≡ filled c old (xs ++ ys)
   filled_twice c old xs ys = take_behind c (old ++ xs) ys ∙ ap (take c) (append_assoc old xs ys)
 
   pub filled_push : (c : ℕ) (old : List X) (x : X) → length old < c → filled c old (x ∷ []) ≡ old ++ x ∷ []

@@ -1,7 +1,7 @@
 -- What a copy of a source means, and that it is within the limits of a source.
-use Rattle.std.specs.Prelude.{ℕ, ◌<◌, List, [], ◌∷◌, map}
+use Rattle.std.specs.Prelude.{ℕ, suc, ◌<◌, List, [], ◌∷◌, map, length, slice_index_or}
 use Rattle.std.specs.List.{AllByRecursion}
-use Rattle.std.proofs.Common.{arith}
+use Rattle.std.proofs.Common.{suc-le-suc, zero-le, arith}
 use Rattle.std.proofs.lemmas.List.{length-map}
 use Rattle.lts.specs.declared.steps.Step.{Step}
 use Rattle.lts.specs.declared.steps.Origin.{Origin}
@@ -17,6 +17,10 @@ copied_process c = table_process c.table c.signals
 -- A copy is judged and not shown, so it keeps no origins: each step is said to come from the same place
 abbrev pub copied_origins : Copied → ℕ → List Origin
 copied_origins c p = map (λ (s : Step). origin Left 0) ((copied_process c).from p)
+
+all_each : {X : Type 0} (P : X → Type 0) (d : X) (xs : List X) → ((k : ℕ) → k < length xs → P (slice_index_or xs k d)) → AllByRecursion P xs
+all_each P d [] h = tt
+all_each P d (x ∷ xs) h = (h 0 (suc-le-suc zero-le), all_each P d xs (λ k l. h (suc k) (suc-le-suc l)))
 
 pub copied_limits : (c : Copied) → ProcessLimits (copied_process c)
 copied_limits c = c.limits

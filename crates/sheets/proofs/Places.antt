@@ -1,8 +1,8 @@
 -- Whether and where a transition stands in a list.
-use Rattle.std.proofs.Common.{◌≡◌, ℕ, zero, suc, ◌+◌, ◌<◌, ◌≤◌, Bool, true, false, not, ◌&&◌, ◌||◌, eqb, ltb, ◌⊎◌, List, [], ◌∷◌, ◌++◌, length, Some, None, sym, refl, ap, ◌∙◌, subst, inl, inr, ⊎_elim, arith}
+use Rattle.std.proofs.Common.{◌≡◌, ℕ, zero, suc, ◌+◌, ◌<◌, ◌≤◌, Bool, true, false, not, ◌&&◌, ◌||◌, eqb, ltb, ◌⊎◌, List, [], ◌∷◌, ◌++◌, length, get_or, take, Some, None, sym, refl, ap, ◌∙◌, subst, inl, inr, ⊎_elim, arith}
 use Rattle.std.specs.List.{slice_get, position, position_or_len}
 use Rattle.std.proofs.iter.runs.Lists.{none-some, same_Some}
-use Rattle.std.proofs.lemmas.Bool.{both_ways, or_cases, or_left, or_right, or_from, and_parts, cond_both, cond-true, cond-false, not-true, not-false, eqb-true, ltb-true, ltb-false}
+use Rattle.std.proofs.lemmas.Bool.{both_ways, or_cases, or_left, or_right, or_parts, or_from, and_parts, cond_both, cond-true, cond-false, not-true, not-false, eqb-true, ltb-true, ltb-false}
 use Rattle.std.proofs.Math.Bool.{or_assoc}
 use Rattle.std.proofs.lemmas.Bool.Decides.{nat_tests}
 use Rattle.sheets.specs.declared.transitions.Transition.{Transition}
@@ -58,12 +58,12 @@ module _ (x : Transition) where
   abbrev is_x : Transition → Bool
   is_x y = same_transition y x
 
-  found : (xs : List Transition) → position_or_len is_x xs < length xs → StandsAt xs x (position_or_len is_x xs)
-  found [] h = absurd (omega arith)
-  found (y ∷ ys) h =
+  first_stands : (xs : List Transition) → position_or_len is_x xs < length xs → StandsAt xs x (position_or_len is_x xs)
+  first_stands [] h = absurd (omega arith)
+  first_stands (y ∷ ys) h =
       cond_both (not (is_x y)) (1 + position_or_len is_x ys) 0 (λ i. i < length (y ∷ ys) → StandsAt (y ∷ ys) x i)
       (λ t inside.
-      let later = found ys (omega arith) in
+      let later = first_stands ys (omega arith) in
       let next : suc (position_or_len is_x ys) ≡ 1 + position_or_len is_x ys = omega arith in
       subst (StandsAt (y ∷ ys) x) next (record {
         inside = omega arith;
@@ -88,4 +88,22 @@ module _ (x : Transition) where
   stands_at_position xs =
       let i = position_or_len is_x xs in
       cond_both (ltb i (length xs)) (Some i) None (IsPlaceOf xs x)
-      (λ t. found xs (ltb-true i (length xs) t)) (λ f. not_found xs (ltb-false i (length xs) f))
+      (λ t. first_stands xs (ltb-true i (length xs) t)) (λ f. not_found xs (ltb-false i (length xs) f))
+
+-- the same at any place, none of those before which has x
+pub found : (xs : List Transition) (i : ℕ) (x d : Transition) → i < length xs →
+    has_transition (take i xs) x ≡ false → same_transition (get_or xs i d) x ≡ true → StandsAt xs x i
+found [] i x d h n s = absurd (omega arith)
+found (y ∷ ys) zero x d h n s = record {
+  inside = h;
+  present = or_left (same_transition y x) (has_transition ys x) s;
+  rest = sym (cond-true (same_transition y x) ys (y ∷ without ys x) s);
+}
+found (y ∷ ys) (suc i) x d h n s =
+    let none = or_parts (same_transition y x) (has_transition (take i ys) x) n in
+    let later = found ys i x d (omega arith) none.1 s in
+    record {
+      inside = h;
+      present = or_right (same_transition y x) (has_transition ys x) later.present;
+      rest = ap (λ zs. y ∷ zs) later.rest ∙ sym (cond-false (same_transition y x) ys (y ∷ without ys x) none.0);
+    }

@@ -16,12 +16,18 @@ use Rattle.sheets.specs.Listings.{process_of, origins_of}
 use Rattle.sheets.specs.SheetLimits.{sheet_limits, sheet_originated}
 use Rattle.sheets.specs.Joins.{joined_process, on_the_right, joined_origins}
 
--- the steps at a state of the right process, with n for the number of the left states
+-- the steps and the origins at a state of the right process, with n for the number of the left states
 pub joined_right : (l r : Process) (p n : ℕ) → n ≡ l.states → n ≤ p →
     (joined_process l r).from p ≡ map (moved n) (r.from (p - n))
 joined_right l r p n e h =
     cond-false (nat_lt p l.states) (l.from p) (map (moved l.states) (r.from (p - l.states))) (le-ltb p l.states (omega arith))
     ∙ ap (λ k. map (moved k) (r.from (p - k))) (sym e)
+
+pub joined_right_origins : (m : ℕ) (l r : ℕ → List Origin) (p n : ℕ) → n ≡ m → n ≤ p →
+    joined_origins m l r p ≡ map on_the_right (r (p - n))
+joined_right_origins m l r p n e h =
+    cond-false (nat_lt p m) (l p) (map on_the_right (r (p - m))) (le-ltb p m (omega arith))
+    ∙ ap (λ k. map on_the_right (r (p - k))) (sym e)
 
 length_cond : {X Y : Type 0} (b : Bool) (xs ys : List X) (us vs : List Y) → length xs ≡ length us → length ys ≡ length vs →
     length (cond b xs ys) ≡ length (cond b us vs)
