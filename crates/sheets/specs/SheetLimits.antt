@@ -37,6 +37,9 @@ all_near : (m j : ℕ) (xs : List Transition) → j + length xs ≤ m → AllByR
 all_near m j [] h = tt
 all_near m j (x ∷ xs) h = (omega arith, all_near m (j + 1) xs (omega arith))
 
+length_listed : (j : ℕ) (xs : List Transition) → length (listed_from j xs) ≡ length xs
+length_listed j xs = length-map (enumerate_from j xs) (λ (x : ℕ × Transition). listed x.0 x.1) ∙ length-enumerate_from j xs
+
 kept_by_none : {X : Type 0} (test : X → Bool) (xs : List X) → AllByRecursion (λ x. test x ≡ false) xs → filter test xs ≡ []
 kept_by_none test [] h = refl
 kept_by_none test (x ∷ xs) h = cond-false (test x) (x ∷ filter test xs) (filter test xs) h.0 ∙ kept_by_none test xs h.1
@@ -45,8 +48,7 @@ module _ (xs : List Transition) (p : ℕ) where
   few_leaving : length (leaving xs p) ≤ length xs
   few_leaving =
       let all = listed_from 0 xs in
-      let places = length-map (enumerate_from 0 xs) (λ (x : ℕ × Transition). listed x.0 x.1) in
-      omega (arith, length-filter (leaves p) all, count_by-le-length (leaves p) all, places, length-enumerate_from 0 xs)
+      omega (arith, length-filter (leaves p) all, count_by-le-length (leaves p) all, length_listed 0 xs)
 
   near_leaving : length xs ≤ 512 → AllByRecursion (λ (o : Origin). o.place < 512) (map origin_of (leaving xs p))
   near_leaving h =
