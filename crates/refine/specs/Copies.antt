@@ -18,6 +18,7 @@ copied_process c = table_process c.table c.signals
 abbrev pub copied_origins : Copied → ℕ → List Origin
 copied_origins c p = map (λ (s : Step). origin Left 0) ((copied_process c).from p)
 
+-- what holds at each place of a list holds of all of it
 all_each : {X : Type 0} (P : X → Type 0) (d : X) (xs : List X) → ((k : ℕ) → k < length xs → P (slice_index_or xs k d)) → AllByRecursion P xs
 all_each P d [] h = tt
 all_each P d (x ∷ xs) h = (h 0 (suc-le-suc zero-le), all_each P d xs (λ k l. h (suc k) (suc-le-suc l)))
